@@ -1,0 +1,20 @@
+ghost use mathlib.Core.Path.{_≡_};
+ghost use Rattle.mdp.specs.Sums.{better};
+
+// The choices are made for the least or for the largest chance.
+#[derive(Clone, Copy, PartialEq, Eq, Debug)]
+pub enum Extreme {
+    Min,
+    Max,
+}
+
+impl Extreme {
+    pub(crate) fn better(self, x: u128, y: u128) -> u128
+        ensures { λ r. ⌜ r ≡ better self x y ⌝ }
+    {
+        match self {
+            Extreme::Min => x.min(y),
+            Extreme::Max => x.max(y),
+        }
+    }
+}

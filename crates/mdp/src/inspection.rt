@@ -1,0 +1,129 @@
+// The inspection of a source: is the model sound, and if not, what is the first fault?
+ghost use mathlib.Core.Path.{_≡_};
+ghost use Prim.Native.Nat.{ℕ, _≤_};
+ghost use Rattle.std.specs.Orderings.{Decides};
+ghost use Rattle.mdp.specs.Sums.{sum};
+ghost use Rattle.mdp.specs.Inspection.{numberOf, placeOf, Lowest, MissesChoices, MissesWeights, FirstFault, Inspected};
+use crate::source::Source;
+
+// Why a model is not sound, with the state that is at fault.
+#[derive(Clone, Copy, PartialEq, Eq, Debug)]
+pub enum Fault {
+    // The number of states or the denominator is out of its limits.
+    Limits,
+    // The state has no choice, or with its choices there are more than 4,096.
+    Choices(u32),
+    // The weights of some choice of the state do not add up to the denominator.
+    Weights(u32),
+}
+
+// The refusal of a source that is not sound.
+#[derive(Clone, Copy, PartialEq, Eq, Debug)]
+pub struct Unsound {
+    pub letter: u8,
+    pub fault: Fault,
+}
+
+impl Unsound {
+    pub fn number(&self) -> u32
+        ensures { λ r. ⌜ r ≡ numberOf (now (self .entry) .fault) ⌝ }
+    {
+        match self.fault {
+            Fault::Limits => 6,
+            Fault::Choices(_) => 7,
+            Fault::Weights(_) => 8,
+        }
+    }
+
+    pub fn place(&self) -> u32
+        ensures { λ r. ⌜ r ≡ placeOf (now (self .entry) .fault) ⌝ }
+    {
+        match self.fault {
+            Fault::Limits => 0,
+            Fault::Choices(s) => s,
+            Fault::Weights(s) => s,
+        }
+    }
+}
+
+// The weights of one choice, added up over the first `n` targets.
+fn row_total<S: Source>(source: &S, s: u32, c: u32, n: u32) -> u64
+    requires { ⌜ n ≤ 256 ⌝ }
+    ensures { λ r. ⌜ r ≡ sum n (S·Source .meaning (now (source .entry)) .weight s c) ⌝ }
+{
+    let mut total: u64 = 0;
+    for t in 0..n {
+        total += source.weight(s, c, t) as u64;
+    }
+    total
+}
+
+fn misses_weights<S: Source>(source: &S, s: u32, n: u32, d: u32) -> bool
+    requires few { ⌜ n ≤ 256 ⌝ }
+    requires states { ⌜ n ≡ S·Source .meaning (now source) .states ⌝ }
+    requires denominator { ⌜ d ≡ S·Source .meaning (now source) .denominator ⌝ }
+    ensures { λ r. ⌜ Decides r (MissesWeights (S·Source .meaning (now (source .entry))) s) ⌝ }
+{
+    for c in 0..source.choices(s) {
+        if row_total(source, s, c, n) != d as u64 {
+            return true;
+        }
+    }
+    false
+}
+
+fn lowest_missing_weights<S: Source>(source: &S, n: u32, d: u32) -> Option<u32>
+    requires few { ⌜ n ≤ 256 ⌝ }
+    requires states { ⌜ n ≡ S·Source .meaning (now source) .states ⌝ }
+    requires denominator { ⌜ d ≡ S·Source .meaning (now source) .denominator ⌝ }
+    ensures { λ r. ⌜ Lowest (MissesWeights (S·Source .meaning (now (source .entry)))) n r ⌝ }
+{
+    for s in 0..n {
+        if misses_weights(source, s, n, d) {
+            return Some(s);
+        }
+    }
+    None
+}
+
+fn lowest_missing_choices<S: Source>(source: &S, n: u32) -> Option<u32>
+    requires { ⌜ n ≤ 256 ⌝ }
+    ensures { λ r. ⌜ Lowest (MissesChoices (S·Source .meaning (now (source .entry)))) n r ⌝ }
+{
+    let mut total: u64 = 0;
+    for s in 0..n {
+        let k = source.choices(s);
+        total += k as u64;
+        if k == 0 || total > 4096 {
+            return Some(s);
+        }
+    }
+    None
+}
+
+fn first_fault<S: Source>(source: &S) -> Option<Fault>
+    ensures { λ r. ⌜ FirstFault (S·Source .meaning (now (source .entry))) r ⌝ }
+{
+    let n = source.states();
+    let d = source.denominator();
+    if n < 1 || n > 256 || d < 1 || d > 65535 {
+        return Some(Fault::Limits);
+    }
+    if let Some(s) = lowest_missing_choices(source, n) {
+        return Some(Fault::Choices(s));
+    }
+    match lowest_missing_weights(source, n, d) {
+        Some(s) => Some(Fault::Weights(s)),
+        None => None,
+    }
+}
+
+// Whether the source's model is sound; if not, the fault of the smallest number that it has anywhere, at the lowest state.
+pub fn inspect<S: Source>(source: &S) -> Result<(), Unsound>
+    ensures { λ r. ⌜ Inspected (S·Source .meaning (now (source .entry))) (S·Source .mark) r ⌝ }
+{
+    match first_fault(source) {
+        None => Ok(()),
+        Some(fault) => Err(Unsound { letter: S::own_letter(), fault }),
+    }
+}
