@@ -4,6 +4,9 @@ ghost use Rattle.mdp.specs.Sound.{Sound};
 ghost use Rattle.layers.specs.Sink.{sinked, SoundOnceSinked};
 use mdp::Source;
 
+// The letter of the sink layer.
+const SINK: u8 = b'K';
+
 // Any source, with one choice that stays put at each state that has none.
 #[derive(Drop)]
 pub struct Sink<S> {
@@ -20,14 +23,14 @@ impl<S: Source> Sink<S> {
 }
 
 pub impl<S: Source> Source for Sink<S> as SinkSource {
-    const LETTER: u8 = b'K';
+    const LETTER: u8 = SINK;
 
     ghost meaning = { λ k. sinked (S·Source .meaning (k .below)) };
 
     ghost mark = { 75 };
 
     fn own_letter() -> u8 {
-        Self::LETTER
+        SINK
     }
 
     fn states(&self) -> u32 {
