@@ -1,30 +1,43 @@
 -- Weighted sums over the targets of a choice.
 use mathlib.Core.Path.{_≡_, refl, sym, _∙_, ap, subst₂}
 use mathlib.Core.List.{List}
-use Prim.Native.Nat.{ℕ, zero, suc, _+_, _*_, _^_, _≤_, _<_, min}
-use native.Mathlib.Nat.{mul-le-mul, mul-zero}
-use native.Mathlib.Omega.{arith}
 use mathlib.Core.Logic.{inl, inr}
+use Prim.Native.Nat.{ℕ, zero, suc, _+_, _*_, _^_, _≤_, _<_, min}
+use native.Mathlib.Nat.{mul-le-mul, mul-le-mul-left, mul-zero, mul-assoc}
+use native.Mathlib.Omega.{arith}
 use lib.ListN.{length}
 use Rattle.std.proofs.shelf.Lists.{getD-past}
 use Rattle.std.proofs.shelf.Tests.{cases-lt}
 use Rattle.mdp.specs.Model.{Model}
+use Rattle.mdp.specs.Sound.{Sound}
 use Rattle.mdp.specs.Values.{entry, expectTo, expect}
-use Rattle.mdp.proofs.Sums.{sum-none, sum-more, sum-past}
+use Rattle.mdp.proofs.Sums.{sum-none, sum-more, sum-past, sum-le, sum-same, sum-times}
 
 -- the start and the step of a loop over the targets
-pub expect-none : (m : Model) (s c : ℕ) (v : ℕ → ℕ) → expectTo m s c v 0 ≡ 0
+pub expect-none : (m : Model) (v : ℕ → ℕ) (s c : ℕ) → expectTo m v s c 0 ≡ 0
 unfolding expectTo
-expect-none m s c v = sum-none _
+expect-none m v s c = sum-none _
 
-pub expect-more : (m : Model) (s c : ℕ) (v : ℕ → ℕ) (n : ℕ) → expectTo m s c v (n + 1) ≡ expectTo m s c v n + m .weight s c n * v n
+pub expect-more : (m : Model) (v : ℕ → ℕ) (s c n : ℕ) → expectTo m v s c (n + 1) ≡ expectTo m v s c n + m .weight s c n * v n
 unfolding expectTo
-expect-more m s c v n = sum-more n _
+expect-more m v s c n = sum-more n _
 
 -- values that are 0 from k on: the targets from k on count for nothing
-pub expect-past : (m : Model) (s c : ℕ) (v : ℕ → ℕ) (n k : ℕ) → k ≤ n → ((t : ℕ) → k ≤ t → v t ≡ 0) → expectTo m s c v n ≡ expectTo m s c v k
+expect-past : (m : Model) (v : ℕ → ℕ) (s c n k : ℕ) → k ≤ n → ((t : ℕ) → k ≤ t → v t ≡ 0) → expectTo m v s c n ≡ expectTo m v s c k
 unfolding expectTo
-expect-past m s c v n k l h = sum-past n k _ l (λ t g. ap (λ x. m .weight s c t * x) (h t g) ∙ mul-zero (m .weight s c t))
+expect-past m v s c n k l h = sum-past n k _ l (λ t g. ap (λ x. m .weight s c t * x) (h t g) ∙ mul-zero (m .weight s c t))
+
+-- targets past the list of values count for nothing
+pub expect-listed :
+    (m : Model) (xs : List ℕ) (s c n : ℕ) → n ≡ min (m .states) (length xs)
+    → expectTo m (entry xs) s c n ≡ expect m (entry xs) s c
+expect-listed m xs s c n e =
+    elim (cases-lt (m .states) (length xs)) [
+      | inl l ↦ let same : n ≡ m .states = omega arith in rw same refl
+      | inr l ↦
+          let same : n ≡ length xs = omega arith in
+          rw same (sym (expect-past m (entry xs) s c (m .states) (length xs) l (λ t g. getD-past xs t 0 g)))
+    ]
 
 -- a weight of 32 bits times a value of 64 bits
 pub product-fits : (w x : ℕ) → w < 2 ^ 32 → x < 2 ^ 64 → w * x ≤ 2 ^ 96
@@ -33,14 +46,23 @@ product-fits w x h k =
     let b : x ≤ 2 ^ 64 = omega arith in
     mul-le-mul a b
 
--- targets past the list of values count for nothing
-pub expect-listed :
-    (m : Model) (s c : ℕ) (xs : List ℕ) (n : ℕ) → n ≡ min (m .states) (length xs)
-    → expectTo m s c (entry xs) n ≡ expect m s c (entry xs)
-expect-listed m s c xs n e =
-    elim (cases-lt (m .states) (length xs)) [
-      | inl l ↦ let same : n ≡ m .states = omega arith in rw same refl
-      | inr l ↦
-          let same : n ≡ length xs = omega arith in
-          rw same (sym (expect-past m s c (entry xs) (m .states) (length xs) l (λ t g. getD-past xs t 0 g)))
-    ]
+pub expect-le : (m : Model) (v w : ℕ → ℕ) (s c : ℕ) → ((t : ℕ) → v t ≤ w t) → expect m v s c ≤ expect m w s c
+unfolding expectTo
+expect-le m v w s c h = sum-le (m .states) _ _ (λ t l. mul-le-mul-left (m .weight s c t) (h t))
+
+pub expect-same : (m : Model) (v w : ℕ → ℕ) (s c : ℕ) → ((t : ℕ) → v t ≡ w t) → expect m v s c ≡ expect m w s c
+unfolding expectTo
+expect-same m v w s c h = sum-same (m .states) _ _ (λ t l. ap (λ x. m .weight s c t * x) (h t))
+
+-- a common factor
+pub expect-times : (m : Model) (v : ℕ → ℕ) (s c a : ℕ) → expect m (λ t. v t * a) s c ≡ expect m v s c * a
+unfolding expectTo
+expect-times m v s c a =
+    sum-same (m .states) _ _ (λ t l. sym (mul-assoc (m .weight s c t) (v t) a)) ∙ sum-times (m .states) (λ t. m .weight s c t * v t) a
+
+-- where every target has the value x, a full choice is worth x times the denominator
+pub expect-whole :
+    (m : Model) → Sound m → (s c x : ℕ) → s < m .states → c < m .choices s
+    → expect m (λ t. x) s c ≡ m .denominator * x
+unfolding expectTo
+expect-whole m sound s c x l r = sum-times (m .states) (m .weight s c) x ∙ ap (λ z. z * x) (sound .full s c l r)

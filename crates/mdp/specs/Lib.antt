@@ -1,6 +1,6 @@
 pub mod Model
 pub mod Sums
-pub mod Values
 pub mod Sound
+pub mod Values
 pub mod Inspection
 pub mod Reach

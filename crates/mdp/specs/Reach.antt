@@ -1,23 +1,41 @@
 -- What is computed of the exact values, and when it is refused.
 use mathlib.Core.Path.{_≡_}
+use mathlib.Core.Bool.{cond}
 use mathlib.Core.Logic.{_⊎_}
-use Prim.Native.Nat.{ℕ, _+_, _*_, _^_, _≤_, _<_}
-use lib.ListN.{getD}
+use Prim.Native.Nat.{ℕ, _+_, _-_, _*_, _^_, _≤_, _<_, min}
 use Rattle.std.specs.declared.result.Result.{Result}
 use Rattle.std.specs.declared.result.Result.the-variants.{Ok, Err}
+use Rattle.mdp.specs.declared.extreme.Extreme.{Extreme}
 use Rattle.mdp.specs.declared.reach.Reach.{Reach}
 use Rattle.mdp.specs.declared.reach.TooFar.{TooFar}
 use Rattle.mdp.specs.Model.{Model}
+use Rattle.mdp.specs.Sums.{best}
 use Rattle.mdp.specs.Sound.{Sound}
-use Rattle.mdp.specs.Values.{Most, Least}
+use Rattle.mdp.specs.Values.{entry, expect, Most, Least}
+
+-- the number of the refusal; its place is 0
+abbrev pub farNumber : TooFar → ℕ
+farNumber _ = 18
+
+abbrev pub farPlace : TooFar → ℕ
+farPlace _ = 0
 
 -- more steps than 1,000, or a power of the denominator above 2 ^ 62
 abbrev pub OutOfRange : ℕ → ℕ → Type 0
 OutOfRange steps power = (1000 < steps) ⊎ (2 ^ 62 < power)
 
--- the values of every state for k steps
+-- it holds the values of every state for k steps
 pub record Reaches (m : Model) (k : ℕ) (v : Reach) : Type 0 where
   pub steps : v .steps ≡ k
   pub power : v .power ≡ m .denominator ^ k
-  pub least : (s : ℕ) → getD (v .least) s 0 ≡ Least m k s
-  pub largest : (s : ℕ) → getD (v .largest) s 0 ≡ Most m k s
+  pub least : (s : ℕ) → entry (v .least) s ≡ Least m k s
+  pub largest : (s : ℕ) → entry (v .largest) s ≡ Most m k s
+
+-- one step from the values v, kept within 64 bits; for a sound model that cuts nothing off
+abbrev pub stepped : Extreme → Model → ℕ → (ℕ → ℕ) → ℕ → ℕ
+stepped e m power v s = cond (m .goal s) power (min (best e (m .choices s) (expect m v s)) (2 ^ 64 - 1))
+
+-- the answer to: what are the values of s for n steps? The least, the largest and the power, or too far.
+abbrev pub Answered : Model → ℕ → ℕ → Result (ℕ × ℕ × ℕ) TooFar → Type 0
+Answered m s n (Ok v) = (v .2 ≡ m .denominator ^ n) × (Sound m → (v .0 ≡ Least m n s) × (v .1 ≡ Most m n s))
+Answered m s n (Err _) = OutOfRange n (m .denominator ^ n)

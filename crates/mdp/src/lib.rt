@@ -3,6 +3,7 @@ mod extreme;
 mod inspection;
 mod reach;
 mod source;
+mod stepping;
 
 pub use extreme::Extreme;
 pub use inspection::Fault;
@@ -14,5 +15,8 @@ pub use inspection::UnsoundPartialEq;
 pub use inspection::inspect;
 pub use reach::Reach;
 pub use reach::TooFar;
+pub use reach::TooFarDebug;
+pub use reach::TooFarPartialEq;
 pub use source::Source;
 pub use source::weighted_sum;
+pub use stepping::exact_values;

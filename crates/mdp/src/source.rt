@@ -37,7 +37,7 @@ pub trait Source {
 
 // The sum of weight × value over all targets of a choice; targets past the values count as 0. It fits, whatever the source answers.
 pub fn weighted_sum<S: Source>(source: &S, s: u32, c: u32, values: &[u64; 256]) -> u128
-    ensures { λ r. ⌜ r ≡ expect (S·Source .meaning (now (source .entry))) s c (entry (now (values .entry))) ⌝ }
+    ensures { λ r. ⌜ r ≡ expect (S·Source .meaning (now (source .entry))) (entry (now (values .entry))) s c ⌝ }
 {
     let mut total: u128 = 0;
     for t in 0..source.states().min(256) {

@@ -19,4 +19,4 @@ loop-t-again g c =
 pub returns : need.returns
 returns g c =
     c .loop-t .inv .1
-    ∙ expect-listed (g .S·Source .meaning (c .args .source .now)) (c .args .s) (c .args .c) (c .args .values .now) (c .loop-t .t) (omega arith)
+    ∙ expect-listed (g .S·Source .meaning (c .args .source .now)) (c .args .values .now) (c .args .s) (c .args .c) (c .loop-t .t) (omega arith)

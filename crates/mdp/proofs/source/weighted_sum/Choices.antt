@@ -6,4 +6,4 @@ use Rattle.mdp.proofs.source.weighted_sum.Given as given
 abbrev pub Inv-loop-t : given.InvT-loop-t
 Inv-loop-t g l =
     (l .total ≤ l .t * 2 ^ 96)
-    × (l .total ≡ expectTo (g .S·Source .meaning (l .source)) (l .s) (l .c) (entry (l .values)) (l .t))
+    × (l .total ≡ expectTo (g .S·Source .meaning (l .source)) (entry (l .values)) (l .s) (l .c) (l .t))
