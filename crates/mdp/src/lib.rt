@@ -4,6 +4,7 @@ mod inspection;
 mod reach;
 mod source;
 mod stepping;
+mod words;
 
 pub use extreme::Extreme;
 pub use inspection::Fault;
@@ -20,3 +21,5 @@ pub use reach::TooFarPartialEq;
 pub use source::Source;
 pub use source::weighted_sum;
 pub use stepping::exact_values;
+pub use words::TooFarDisplay;
+pub use words::UnsoundDisplay;

@@ -1,0 +1,64 @@
+// A request: the five numbers of a retry sheet, and the number of steps to show.
+use std::fmt;
+
+#[derive(Clone, Copy, PartialEq, Eq, Debug)]
+pub struct Request {
+    pub events: u32,
+    pub resends: u32,
+    pub denominator: u32,
+    pub request: u32,
+    pub receipt: u32,
+    pub steps: u32,
+}
+
+// The line is not six whole numbers below 2^32.
+#[derive(Clone, Copy, PartialEq, Eq, Debug)]
+pub struct BadLine;
+
+// The next word, as a number.
+fn number(word: Option<&str>) -> Result<u32, BadLine> {
+    let Some(word) = word else {
+        return Err(BadLine);
+    };
+    match word.parse::<u32>() {
+        Ok(n) => Ok(n),
+        Err(_) => Err(BadLine),
+    }
+}
+
+impl Request {
+    // Six numbers with blanks between them.
+    pub fn parse(line: &str) -> Result<Request, BadLine> {
+        let mut words = line.split_whitespace();
+        let request = Request {
+            events: number(words.next())?,
+            resends: number(words.next())?,
+            denominator: number(words.next())?,
+            request: number(words.next())?,
+            receipt: number(words.next())?,
+            steps: number(words.next())?,
+        };
+        match words.next() {
+            None => Ok(request),
+            Some(_) => Err(BadLine),
+        }
+    }
+}
+
+pub impl fmt::Display for Request as RequestDisplay {
+    fn fmt<W: fmt::Write>(&self, f: &mut fmt::Formatter<W>) -> fmt::Result {
+        let events = self.events;
+        let resends = self.resends;
+        let d = self.denominator;
+        let a = self.request;
+        let b = self.receipt;
+        writeln!(f, "Retry sheet: events {events}, resends of each {resends}.")?;
+        write!(f, "Of {d} sendings {a} lose the request and {b} the receipt.")
+    }
+}
+
+pub impl fmt::Display for BadLine as BadLineDisplay {
+    fn fmt<W: fmt::Write>(&self, f: &mut fmt::Formatter<W>) -> fmt::Result {
+        f.write_str("bad line: six whole numbers are wanted, E M D a b N, each from 0 to 4294967295")
+    }
+}
