@@ -1,5 +1,6 @@
 // What people type and read: a request as a line of numbers, and shares as decimals rounded to the safe side.
 mod decimal;
+mod line;
 mod request;
 
 pub use decimal::Decimal;

@@ -6,7 +6,9 @@ pub struct Request {
     pub events: u32,
     pub resends: u32,
     pub denominator: u32,
+    // The weight of a lost request.
     pub request: u32,
+    // The weight of a lost receipt.
     pub receipt: u32,
     pub steps: u32,
 }
@@ -14,36 +16,6 @@ pub struct Request {
 // The line is not six whole numbers below 2^32.
 #[derive(Clone, Copy, PartialEq, Eq, Debug)]
 pub struct BadLine;
-
-// The next word, as a number.
-fn number(word: Option<&str>) -> Result<u32, BadLine> {
-    let Some(word) = word else {
-        return Err(BadLine);
-    };
-    match word.parse::<u32>() {
-        Ok(n) => Ok(n),
-        Err(_) => Err(BadLine),
-    }
-}
-
-impl Request {
-    // Six numbers with blanks between them.
-    pub fn parse(line: &str) -> Result<Request, BadLine> {
-        let mut words = line.split_whitespace();
-        let request = Request {
-            events: number(words.next())?,
-            resends: number(words.next())?,
-            denominator: number(words.next())?,
-            request: number(words.next())?,
-            receipt: number(words.next())?,
-            steps: number(words.next())?,
-        };
-        match words.next() {
-            None => Ok(request),
-            Some(_) => Err(BadLine),
-        }
-    }
-}
 
 pub impl fmt::Display for Request as RequestDisplay {
     fn fmt<W: fmt::Write>(&self, f: &mut fmt::Formatter<W>) -> fmt::Result {
