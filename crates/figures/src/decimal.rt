@@ -1,43 +1,53 @@
 // Shares of a whole as decimals with six places.
+ghost use mathlib.Core.Logic.{_⊎_};
 ghost use mathlib.Core.Path.{_≡_};
 ghost use Prim.Native.Nat.{_+_, _*_, _<_, _≤_};
 ghost use Rattle.std.specs.Options.{Cases};
-ghost use Rattle.figures.specs.Decimal.{NotAbove, NotBelow};
+ghost use Rattle.std.specs.declared.option.Option.the-variants.{Some};
+ghost use Rattle.figures.specs.Decimal.{NoShare, NotAbove, NotBelow, written};
 use std::fmt;
 
 #[derive(Clone, Copy, PartialEq, Eq, Debug)]
 pub struct Decimal {
-    millionths: u128,
+    millionths: u32,
 }
 
 impl Decimal {
-    // The largest decimal that is not above part ÷ whole; none where the whole is 0.
+    // The largest decimal that is not above part ÷ whole; none where that is no share.
     pub fn rounded_down(part: u64, whole: u64) -> Option<Decimal>
-        ensures { λ r. ⌜ Cases r (whole ≡ 0) (λ d. NotAbove part whole (d .millionths)) ⌝ }
+        ensures { λ r. ⌜ Cases r (NoShare part whole) (λ d. NotAbove part whole (d .millionths)) ⌝ }
     {
-        if whole == 0 {
+        if whole == 0 || part > whole {
             return None;
         }
         let millionths = part as u128 * 1_000_000 / whole as u128;
-        Some(Decimal { millionths })
+        Some(Decimal { millionths: millionths as u32 })
     }
 
-    // The least decimal that is not below part ÷ whole; none where the whole is 0.
+    // The least decimal that is not below part ÷ whole; none where that is no share.
     pub fn rounded_up(part: u64, whole: u64) -> Option<Decimal>
-        ensures { λ r. ⌜ Cases r (whole ≡ 0) (λ d. NotBelow part whole (d .millionths)) ⌝ }
+        ensures { λ r. ⌜ Cases r (NoShare part whole) (λ d. NotBelow part whole (d .millionths)) ⌝ }
     {
-        if whole == 0 {
+        if whole == 0 || part > whole {
             return None;
         }
         let millionths = (part as u128 * 1_000_000 + (whole as u128 - 1)) / whole as u128;
-        Some(Decimal { millionths })
+        Some(Decimal { millionths: millionths as u32 })
     }
 }
 
 pub impl fmt::Display for Decimal as DecimalDisplay {
+    ghost shown = { λ x. Some (written (x .millionths)) };
+
     fn fmt<W: fmt::Write>(&self, f: &mut fmt::Formatter<W>) -> fmt::Result {
-        let ones = self.millionths / 1_000_000;
-        let rest = self.millionths % 1_000_000;
-        write!(f, "{ones}.{rest:06}")
+        let n = self.millionths;
+        let ones = n / 1_000_000;
+        let a = n / 100_000 % 10;
+        let b = n / 10_000 % 10;
+        let c = n / 1_000 % 10;
+        let d = n / 100 % 10;
+        let e = n / 10 % 10;
+        let last = n % 10;
+        write!(f, "{ones}.{a}{b}{c}{d}{e}{last}")
     }
 }

@@ -1,4 +1,6 @@
 // A request: the five numbers of a retry sheet, and the number of steps to show.
+ghost use Rattle.std.specs.declared.option.Option.the-variants.{Some};
+ghost use Rattle.figures.specs.Words.{inWords, wanted};
 use std::fmt;
 
 #[derive(Clone, Copy, PartialEq, Eq, Debug)]
@@ -18,18 +20,21 @@ pub struct Request {
 pub struct BadLine;
 
 pub impl fmt::Display for Request as RequestDisplay {
+    ghost shown = { λ q. Some (inWords q) };
+
     fn fmt<W: fmt::Write>(&self, f: &mut fmt::Formatter<W>) -> fmt::Result {
         let events = self.events;
         let resends = self.resends;
         let d = self.denominator;
         let a = self.request;
         let b = self.receipt;
-        writeln!(f, "Retry sheet: events {events}, resends of each {resends}.")?;
-        write!(f, "Of {d} sendings {a} lose the request and {b} the receipt.")
+        write!(f, "Retry sheet: events {events}, resends of each {resends}. Of {d} sendings {a} lose the request and {b} the receipt.")
     }
 }
 
 pub impl fmt::Display for BadLine as BadLineDisplay {
+    ghost shown = { λ x. Some (wanted x) };
+
     fn fmt<W: fmt::Write>(&self, f: &mut fmt::Formatter<W>) -> fmt::Result {
         f.write_str("bad line: six whole numbers are wanted, E M D a b N, each from 0 to 4294967295")
     }

