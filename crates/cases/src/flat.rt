@@ -45,6 +45,10 @@ pub impl Source for Flat as FlatSource {
     }
 
     fn weight(&self, s: u32, c: u32, t: u32) -> u32 {
-        if s < self.states && c < self.choices && t < self.states { self.weight } else { 0 }
+        if s < self.states && c < self.choices && t < self.states {
+            self.weight
+        } else {
+            0
+        }
     }
 }

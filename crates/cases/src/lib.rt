@@ -1,5 +1,4 @@
 // Longer tests, and a source of a caller's own.
 mod flat;
-
 #[cfg(test)]
 mod tests;

@@ -21,7 +21,9 @@ impl Decimal {
             return None;
         }
         let millionths = part as u128 * 1_000_000 / whole as u128;
-        Some(Decimal { millionths: millionths as u32 })
+        Some(Decimal {
+            millionths: millionths as u32,
+        })
     }
 
     // The least decimal that is not below part ÷ whole; none where that is no share.
@@ -32,7 +34,9 @@ impl Decimal {
             return None;
         }
         let millionths = (part as u128 * 1_000_000 + (whole as u128 - 1)) / whole as u128;
-        Some(Decimal { millionths: millionths as u32 })
+        Some(Decimal {
+            millionths: millionths as u32,
+        })
     }
 }
 

@@ -91,6 +91,13 @@ impl Request {
         if Kind::Blank.run(rest) < rest.len() {
             return Err(BadLine);
         }
-        Ok(Request { events, resends, denominator, request, receipt, steps })
+        Ok(Request {
+            events,
+            resends,
+            denominator,
+            request,
+            receipt,
+            steps,
+        })
     }
 }

@@ -28,7 +28,10 @@ pub impl fmt::Display for Request as RequestDisplay {
         let d = self.denominator;
         let a = self.request;
         let b = self.receipt;
-        write!(f, "Retry sheet: events {events}, resends of each {resends}. Of {d} sendings {a} lose the request and {b} the receipt.")
+        write!(
+            f,
+            "Retry sheet: events {events}, resends of each {resends}. Of {d} sendings {a} lose the request and {b} the receipt."
+        )
     }
 }
 
@@ -36,6 +39,8 @@ pub impl fmt::Display for BadLine as BadLineDisplay {
     ghost shown = { λ x. Some (wanted x) };
 
     fn fmt<W: fmt::Write>(&self, f: &mut fmt::Formatter<W>) -> fmt::Result {
-        f.write_str("bad line: six whole numbers are wanted, E M D a b N, each from 0 to 4294967295")
+        f.write_str(
+            "bad line: six whole numbers are wanted, E M D a b N, each from 0 to 4294967295",
+        )
     }
 }

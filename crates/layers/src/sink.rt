@@ -47,12 +47,20 @@ pub impl<S: Source> Source for Sink<S> as SinkSource {
 
     fn choices(&self, s: u32) -> u32 {
         let n = self.below.choices(s);
-        if n == 0 && s < self.below.states() { 1 } else { n }
+        if n == 0 && s < self.below.states() {
+            1
+        } else {
+            n
+        }
     }
 
     fn weight(&self, s: u32, c: u32, t: u32) -> u32 {
         if self.below.choices(s) == 0 && s < self.below.states() {
-            if c == 0 && t == s { self.below.denominator() } else { 0 }
+            if c == 0 && t == s {
+                self.below.denominator()
+            } else {
+                0
+            }
         } else {
             self.below.weight(s, c, t)
         }

@@ -31,6 +31,23 @@ pub record Reaches (m : Model) (k : ℕ) (v : Reach) : Type 0 where
   pub least : (s : ℕ) → entry (v .least) s ≡ Least m k s
   pub largest : (s : ℕ) → entry (v .largest) s ≡ Most m k s
 
+-- the values for no steps
+pub record Begun (m : Model) (v : Reach) : Type 0 where
+  pub steps : v .steps ≡ 0
+  pub power : v .power ≡ 1
+  pub values : Sound m → Reaches m 0 v
+
+-- one step more, from old to new
+pub record Advanced (m : Model) (old new : Reach) : Type 0 where
+  pub steps : new .steps ≡ old .steps + 1
+  pub power : new .power ≡ old .power * m .denominator
+  pub values : (k : ℕ) → Sound m → Reaches m k old → Reaches m (k + 1) new
+
+-- the answer to a call for one step more, and what the call leaves
+abbrev pub Stepped : Model → Reach → Result Unit TooFar → Reach → Type 0
+Stepped m old (Ok _) new = Advanced m old new
+Stepped m old (Err _) new = OutOfRange (old .steps + 1) (old .power * m .denominator) × (new ≡ old)
+
 -- one step from the values v, kept within 64 bits; for a sound model that cuts nothing off
 abbrev pub stepped : Extreme → Model → ℕ → (ℕ → ℕ) → ℕ → ℕ
 stepped e m power v s = cond (m .goal s) power (min (best e (m .choices s) (expect m v s)) (2 ^ 64 - 1))

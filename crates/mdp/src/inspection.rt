@@ -124,6 +124,9 @@ pub fn inspect<S: Source>(source: &S) -> Result<(), Unsound>
 {
     match first_fault(source) {
         None => Ok(()),
-        Some(fault) => Err(Unsound { letter: S::own_letter(), fault }),
+        Some(fault) => Err(Unsound {
+            letter: S::own_letter(),
+            fault,
+        }),
     }
 }

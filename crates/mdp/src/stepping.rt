@@ -3,11 +3,9 @@ ghost use mathlib.Core.Path.{_≡_};
 ghost use mathlib.Core.Bool.{cond};
 ghost use Prim.Native.Nat.{ℕ, _+_, _-_, _*_, _^_, _≤_, _<_, min};
 ghost use lib.ListN.{getD};
-ghost use Rattle.std.specs.Results.{Cases};
 ghost use Rattle.mdp.specs.Sums.{best};
-ghost use Rattle.mdp.specs.Sound.{Sound};
 ghost use Rattle.mdp.specs.Values.{entry, expect, ValueLaws};
-ghost use Rattle.mdp.specs.Reach.{farNumber, farPlace, OutOfRange, Reaches, stepped, Answered};
+ghost use Rattle.mdp.specs.Reach.{farNumber, farPlace, Begun, Stepped, stepped, Answered};
 use crate::extreme::Extreme;
 use crate::reach::Reach;
 use crate::reach::TooFar;
@@ -42,13 +40,23 @@ fn best_choice<S: Source>(extreme: Extreme, source: &S, s: u32, values: &[u64; 2
     let mut best: u128 = 0;
     for c in 0..source.choices(s) {
         let offer = weighted_sum(source, s, c, values);
-        best = if c == 0 { offer } else { extreme.better(best, offer) };
+        best = if c == 0 {
+            offer
+        } else {
+            extreme.better(best, offer)
+        };
     }
     best
 }
 
 // The value of one state after a step.
-fn next_value<S: Source>(extreme: Extreme, source: &S, s: u32, values: &[u64; 256], power: u64) -> u64
+fn next_value<S: Source>(
+    extreme: Extreme,
+    source: &S,
+    s: u32,
+    values: &[u64; 256],
+    power: u64,
+) -> u64
     ensures { λ r. ⌜ r ≡ stepped extreme (S·Source .meaning (now (source .entry))) power (entry (now (values .entry))) s ⌝ }
 {
     if source.is_goal(s) {
@@ -58,7 +66,12 @@ fn next_value<S: Source>(extreme: Extreme, source: &S, s: u32, values: &[u64; 25
 }
 
 // The values of all states after a step.
-fn next_values<S: Source>(extreme: Extreme, source: &S, values: &[u64; 256], power: u64) -> [u64; 256]
+fn next_values<S: Source>(
+    extreme: Extreme,
+    source: &S,
+    values: &[u64; 256],
+    power: u64,
+) -> [u64; 256]
     ensures { λ r. ⌜ ((s : ℕ) → s < 256 → getD r s 0 ≡ stepped extreme (S·Source .meaning (now (source .entry))) power (entry (now (values .entry))) s) ⌝ }
 {
     let mut next = zeros();
@@ -84,17 +97,20 @@ fn goal_marks<S: Source>(source: &S) -> [u64; 256]
 impl Reach {
     // The values for no steps.
     pub fn start<S: Source>(source: &S) -> Reach
-        ensures range { λ r. ⌜ (r .steps ≡ 0) × (r .power ≡ 1) ⌝ }
-        ensures values { λ r. ⌜ (Sound (S·Source .meaning (now (source .entry))) → Reaches (S·Source .meaning (now (source .entry))) 0 r) ⌝ }
+        ensures { λ r. ⌜ Begun (S·Source .meaning (now (source .entry))) r ⌝ }
     {
         let marks = goal_marks(source);
-        Reach { steps: 0, power: 1, least: marks, largest: marks }
+        Reach {
+            steps: 0,
+            power: 1,
+            least: marks,
+            largest: marks,
+        }
     }
 
     // One step more. The values stay as they are where that is too far.
     pub fn step<S: Source>(&mut self, source: &S) -> Result<(), TooFar>
-        ensures range { λ r. ⌜ Cases r (λ _. (now (self .exit) .steps ≡ now (self .entry) .steps + 1) × (now (self .exit) .power ≡ now (self .entry) .power * S·Source .meaning (now (source .entry)) .denominator)) (λ _. OutOfRange (now (self .entry) .steps + 1) (now (self .entry) .power * S·Source .meaning (now (source .entry)) .denominator) × (now (self .exit) ≡ now (self .entry))) ⌝ }
-        ensures values { λ r. ⌜ ((k : ℕ) → Sound (S·Source .meaning (now (source .entry))) → Reaches (S·Source .meaning (now (source .entry))) k (now (self .entry)) → Cases r (λ _. Reaches (S·Source .meaning (now (source .entry))) (k + 1) (now (self .exit))) (λ _. Unit {0})) ⌝ }
+        ensures { λ r. ⌜ Stepped (S·Source .meaning (now (source .entry))) (now (self .entry)) r (now (self .exit)) ⌝ }
     {
         let power = self.power as u128 * source.denominator() as u128;
         if self.steps >= 1000 || power > 1 << 62 {
@@ -104,7 +120,12 @@ impl Reach {
         let least = next_values(Extreme::Min, source, &self.least, power);
         let largest = next_values(Extreme::Max, source, &self.largest, power);
         let steps = self.steps + 1;
-        *self = Reach { steps, power, least, largest };
+        *self = Reach {
+            steps,
+            power,
+            least,
+            largest,
+        };
         Ok(())
     }
 

@@ -20,14 +20,14 @@ returns-then-n-gt1000 g c =
 pub loop-k-holds : need.loop-k-holds
 loop-k-holds g c =
     let m = g .S·Source .meaning (c .args .source .now) in
-    (c .start-reach .ensures .range .0, c .start-reach .ensures .range .1 ∙ sym (pow-zero (m .denominator)), c .start-reach .ensures .values)
+    (c .start-reach .ensures .steps, c .start-reach .ensures .power ∙ sym (pow-zero (m .denominator)), c .start-reach .ensures .values)
 
 pub returns-in-Break-step : need.returns-in-Break-step
 returns-in-Break-step g c =
     let m = g .S·Source .meaning (c .args .source .now) in
     let p = err-from-errBy (c .from-residual .result) (c .from-residual .ensures .1) in
     let k = c .loop-k .-k in
-    let far = c .in-Break-step .ensures tt .range .0 in
+    let far = c .in-Break-step .ensures tt .0 in
     let whole = power-more (m .denominator) k (c .loop-k .reach .power) (m .denominator) (c .loop-k .inv .1) refl in
     rw (p .1) (record {
       answer = out-of-range-later (m .denominator) k (c .args .n) (omega arith) (omega arith)
@@ -39,10 +39,11 @@ pub loop-k-again : need.loop-k-again
 loop-k-again g c =
     let m = g .S·Source .meaning (c .args .source .now) in
     let k = c .loop-k .-k in
-    let next = c .in-Continue-step .ensures tt in
-    (next .range .0 ∙ ap (λ i. i + 1) (c .loop-k .inv .0),
-     next .range .1 ∙ power-more (m .denominator) k (c .loop-k .reach .power) (m .denominator) (c .loop-k .inv .1) refl,
-     λ sound. next .values k sound (c .loop-k .inv .2 sound))
+    let next = c .in-Continue-step .ensures tt in (
+      next .steps ∙ ap (λ i. i + 1) (c .loop-k .inv .0),
+      next .power ∙ power-more (m .denominator) k (c .loop-k .reach .power) (m .denominator) (c .loop-k .inv .1) refl,
+      λ sound. next .values k sound (c .loop-k .inv .2 sound),
+    )
 
 pub returns : need.returns
 returns g c =
@@ -51,7 +52,9 @@ returns g c =
     let all : c .loop-k .-k ≡ n = omega arith in
     let held : Sound m → Reaches m n (c .loop-k .reach) = λ sound. subst (λ i. Reaches m i (c .loop-k .reach)) all (c .loop-k .inv .2 sound) in
     record {
-      answer = (c .at .ensures .power ∙ c .loop-k .inv .1 ∙ ap (λ i. m .denominator ^ i) all,
-          λ sound. (c .at .ensures .least ∙ held sound .least (c .args .s), c .at .ensures .largest ∙ held sound .largest (c .args .s)));
+      answer = (
+        c .at .ensures .power ∙ c .loop-k .inv .1 ∙ ap (λ i. m .denominator ^ i) all,
+        λ sound. (c .at .ensures .least ∙ held sound .least (c .args .s), c .at .ensures .largest ∙ held sound .largest (c .args .s)),
+      );
       laws = value-laws m (g .S·Source·met .bounded (c .args .source .now)) n (c .args .s);
     }

@@ -11,7 +11,8 @@ returns g c =
     let b = g .S·Source·met .bounded (c .args .source .now) in
     let marks = c .goal-marks-marks .result in
     record {
-      range = (refl, refl);
+      steps = refl;
+      power = refl;
       values = λ sound. record {
         steps = refl;
         power = sym (pow-zero (m .denominator));

@@ -13,7 +13,8 @@ returns g c =
     let b = g .S·Source·met .bounded (c .args .source .now) in
     let old = c .args .self .now in
     record {
-      range = (refl, ap (λ d. old .power * d) (c .denominator .ensures));
+      steps = refl;
+      power = ap (λ d. old .power * d) (c .denominator .ensures);
       values = λ k sound held.
           let whole = power-more (m .denominator) k (old .power) (c .denominator .result) (held .power) (c .denominator .ensures) in
           record {
