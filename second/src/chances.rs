@@ -32,8 +32,10 @@ pub fn answer(input: &[u8]) -> String {
         return BAD_LINE.to_string();
     };
     let mut out = String::new();
-    let _ = writeln!(out, "Retry sheet: events {e}, resends of each {m}.");
-    let _ = writeln!(out, "Of {d} sendings {a} lose the request and {b} the receipt.");
+    let _ = writeln!(
+        out,
+        "Retry sheet: events {e}, resends of each {m}. Of {d} sendings {a} lose the request and {b} the receipt."
+    );
     match graph(e, m, d, a, b) {
         None => out.push_str(
             "refused by 6 at place 0: the number of states is not 1 to 256, or the denominator not 1 to 65535 (opening of source K)\n",

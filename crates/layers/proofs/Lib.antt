@@ -1,1 +1,5 @@
 pub mod Sinks
+pub mod Filled
+pub mod Lawfulness
+pub mod ByClass
+pub mod Quotients

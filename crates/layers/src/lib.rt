@@ -1,5 +1,11 @@
 // Sources over other sources: the sink layer and the quotient layer.
+mod classes;
+mod quotient;
 mod sink;
+#[cfg(test)]
+mod tests;
 
+pub use quotient::Quotient;
+pub use quotient::QuotientSource;
 pub use sink::Sink;
 pub use sink::SinkSource;

@@ -1,0 +1,136 @@
+ghost use mathlib.Core.Bool.{cond, _&&_};
+ghost use Prim.Native.Nat.{_+_};
+ghost use lib.Dec.{eqb, leb, ltb};
+use crate::quotient::Quotient;
+use crate::quotient::QuotientSource;
+use crate::sink::Sink;
+use crate::sink::SinkSource;
+use mdp::Fault;
+use mdp::Source;
+use mdp::Unsound;
+use mdp::UnsoundDebug;
+use mdp::UnsoundPartialEq;
+use mdp::inspect;
+use std::test::*;
+
+// The largest answers that there are.
+#[derive(Drop)]
+struct Full;
+
+impl Source for Full as FullSource {
+    const LETTER: u8 = b'F';
+
+    ghost meaning = { λ _. record { states = 4294967295; denominator = 4294967295; goal = λ s. ltb s 4294967295; choices = λ s. cond (ltb s 4294967295) 4294967295 0; weight = λ s c t. cond (ltb s 4294967295 && (ltb c 4294967295 && ltb t 4294967295)) 4294967295 0 } };
+
+    ghost mark = { 70 };
+
+    fn own_letter() -> u8 {
+        b'F'
+    }
+
+    fn states(&self) -> u32 {
+        u32::MAX
+    }
+
+    fn denominator(&self) -> u32 {
+        u32::MAX
+    }
+
+    fn is_goal(&self, s: u32) -> bool {
+        s < u32::MAX
+    }
+
+    fn choices(&self, s: u32) -> u32 {
+        if s < u32::MAX { u32::MAX } else { 0 }
+    }
+
+    fn weight(&self, s: u32, c: u32, t: u32) -> u32 {
+        if s < u32::MAX && c < u32::MAX && t < u32::MAX {
+            u32::MAX
+        } else {
+            0
+        }
+    }
+}
+
+// Four states, of which the last two are goals. From state s one can go to each state up to s.
+#[derive(Drop)]
+struct Stairs;
+
+impl Source for Stairs as StairsSource {
+    const LETTER: u8 = b'S';
+
+    ghost meaning = { λ _. record { states = 4; denominator = 1; goal = λ s. ltb s 4 && leb 2 s; choices = λ s. cond (ltb s 4) (s + 1) 0; weight = λ s c t. cond (ltb s 4 && (leb c s && eqb c t)) 1 0 } };
+
+    ghost mark = { 83 };
+
+    fn own_letter() -> u8 {
+        b'S'
+    }
+
+    fn states(&self) -> u32 {
+        4
+    }
+
+    fn denominator(&self) -> u32 {
+        1
+    }
+
+    fn is_goal(&self, s: u32) -> bool {
+        s < 4 && s >= 2
+    }
+
+    fn choices(&self, s: u32) -> u32 {
+        if s < 4 { s + 1 } else { 0 }
+    }
+
+    fn weight(&self, s: u32, c: u32, t: u32) -> u32 {
+        if s < 4 && c <= s && c == t { 1 } else { 0 }
+    }
+}
+
+#[test]
+fn large_answers_are_refused() -> Result<(), Fail> {
+    check_eq(
+        inspect(&Sink::new(Full)),
+        Err(Unsound {
+            letter: b'K',
+            fault: Fault::Limits,
+        }),
+    )?;
+    let q = Quotient::new(Full, &[0, 0]);
+    check_eq(
+        inspect(&q),
+        Err(Unsound {
+            letter: b'Q',
+            fault: Fault::Limits,
+        }),
+    )?;
+    check_eq(q.states(), 0)?;
+    check_eq(q.denominator(), 0)?;
+    check_eq(q.is_goal(0), false)?;
+    check_eq(q.choices(0), 0)?;
+    check_eq(q.weight(0, 0, 0), 0)
+}
+
+#[test]
+fn classes_have_the_choices_of_their_states() -> Result<(), Fail> {
+    let q = Quotient::new(Stairs, &[0, 0, 1, 1]);
+    check_eq(inspect(&q), Ok(()))?;
+    check_eq(q.states(), 2)?;
+    check_eq(q.is_goal(0), false)?;
+    check_eq(q.is_goal(1), true)?;
+    check_eq(q.choices(0), 3)?;
+    check_eq(q.choices(1), 7)?;
+    // State 3 goes to state 2.
+    check_eq(q.weight(1, 5, 1), 1)?;
+    check_eq(q.weight(1, 5, 0), 0)?;
+    check_eq(q.weight(1, 7, 1), 0)
+}
+
+#[test]
+fn unlawful_lists_have_no_class() -> Result<(), Fail> {
+    check_eq(Quotient::new(Stairs, &[0, 0, 1]).states(), 0)?;
+    check_eq(Quotient::new(Stairs, &[0, 0, 2, 2]).states(), 0)?;
+    check_eq(Quotient::new(Stairs, &[0, 1, 1, 1]).states(), 0)
+}

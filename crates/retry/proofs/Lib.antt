@@ -1,0 +1,5 @@
+mod Limits
+mod Numbering
+mod Giving
+mod Retried
+mod SheetA
