@@ -1,4 +1,9 @@
-// Longer tests, and a source of a caller's own.
+// Tests of the library crates, and a source of a caller's own.
 mod flat;
+
 #[cfg(test)]
-mod tests;
+mod inspections;
+#[cfg(test)]
+mod quotients;
+#[cfg(test)]
+mod sheets;

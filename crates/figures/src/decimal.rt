@@ -12,6 +12,16 @@ pub struct Decimal {
     millionths: u32,
 }
 
+// Millionths of a whole, a fraction of one dropped.
+fn quotient(x: u128, whole: u64) -> u32
+    requires some { ⌜ 0 < whole ⌝ }
+    requires share { ⌜ x ≤ whole * 1000001 ⌝ }
+    ensures below { λ r. ⌜ r * whole ≤ x ⌝ }
+    ensures above { λ r. ⌜ x < (r + 1) * whole ⌝ }
+{
+    (x / whole as u128) as u32
+}
+
 impl Decimal {
     // The largest decimal that is not above part ÷ whole; none where that is no share.
     pub fn rounded_down(part: u64, whole: u64) -> Option<Decimal>
@@ -20,9 +30,8 @@ impl Decimal {
         if whole == 0 || part > whole {
             return None;
         }
-        let millionths = part as u128 * 1_000_000 / whole as u128;
         Some(Decimal {
-            millionths: millionths as u32,
+            millionths: quotient(part as u128 * 1_000_000, whole),
         })
     }
 
@@ -33,9 +42,8 @@ impl Decimal {
         if whole == 0 || part > whole {
             return None;
         }
-        let millionths = (part as u128 * 1_000_000 + (whole as u128 - 1)) / whole as u128;
         Some(Decimal {
-            millionths: millionths as u32,
+            millionths: quotient(part as u128 * 1_000_000 + (whole as u128 - 1), whole),
         })
     }
 }

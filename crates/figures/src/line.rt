@@ -1,11 +1,13 @@
 // Reading a request from a line of numbers.
+ghost use mathlib.Core.List.{[], _∷_};
 ghost use mathlib.Core.Path.{_≡_};
 ghost use Prim.Native.Nat.{ℕ, _^_, _<_, _≤_};
 ghost use lib.ListN.{take, drop};
 ghost use Rattle.std.specs.Options.{Cases};
 ghost use Rattle.std.specs.Results.{Cases as Outcome};
 ghost use Rattle.std.specs.shelf.Lists.{leading};
-ghost use Rattle.figures.specs.Line.{is, valueOf, behind, Begins, Parsed};
+ghost use Rattle.figures.specs.declared.request.Request.{Request};
+ghost use Rattle.figures.specs.Line.{is, valueOf, behind, Begins, Numbers, listed, Parsed};
 use crate::request::BadLine;
 use crate::request::Request;
 
@@ -77,20 +79,28 @@ fn number(text: &[u8]) -> Result<(u32, &[u8]), BadLine>
     }
 }
 
+// All the numbers of a line that has six.
+fn six_numbers(line: &[u8]) -> Result<(u32, u32, u32, u32, u32, u32), BadLine>
+    ensures { λ r. ⌜ Outcome r (λ n. Numbers (now (line .entry)) (n .0 ∷ n .1 ∷ n .2 ∷ n .3 ∷ n .4 ∷ n .5 ∷ [])) (λ _. (q : Request) → Numbers (now (line .entry)) (listed q) → ⊥) ⌝ }
+{
+    let (first, rest) = number(line)?;
+    let (second, rest) = number(rest)?;
+    let (third, rest) = number(rest)?;
+    let (fourth, rest) = number(rest)?;
+    let (fifth, rest) = number(rest)?;
+    let (sixth, rest) = number(rest)?;
+    if Kind::Blank.run(rest) < rest.len() {
+        return Err(BadLine);
+    }
+    Ok((first, second, third, fourth, fifth, sixth))
+}
+
 impl Request {
     // Six numbers with blanks between them.
     pub fn parse(line: &[u8]) -> Result<Request, BadLine>
         ensures { λ r. ⌜ Parsed (now (line .entry)) r ⌝ }
     {
-        let (events, rest) = number(line)?;
-        let (resends, rest) = number(rest)?;
-        let (denominator, rest) = number(rest)?;
-        let (request, rest) = number(rest)?;
-        let (receipt, rest) = number(rest)?;
-        let (steps, rest) = number(rest)?;
-        if Kind::Blank.run(rest) < rest.len() {
-            return Err(BadLine);
-        }
+        let (events, resends, denominator, request, receipt, steps) = six_numbers(line)?;
         Ok(Request {
             events,
             resends,

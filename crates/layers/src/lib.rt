@@ -2,8 +2,6 @@
 mod classes;
 mod quotient;
 mod sink;
-#[cfg(test)]
-mod tests;
 
 pub use quotient::Quotient;
 pub use quotient::QuotientSource;

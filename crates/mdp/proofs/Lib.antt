@@ -2,5 +2,3 @@ pub mod Sums
 pub mod Expect
 pub mod Bests
 pub mod Values
-pub mod OneStep
-pub mod Soundness

@@ -2,7 +2,7 @@ ghost use mathlib.Core.Path.{_≡_};
 ghost use Rattle.mdp.specs.Sums.{better};
 
 // The choices are made for the least or for the largest chance.
-#[derive(Clone, Copy, PartialEq, Eq, Debug)]
+#[derive(Clone, Copy)]
 pub enum Extreme {
     Min,
     Max,

@@ -1,25 +1,9 @@
-// Markov decision processes with whole-number weights: what a model is, the sources that answer for one, their inspection and their exact values.
+// Markov decision processes with whole-number weights: what a model is, the sources that answer for one, and sums over a source.
 mod extreme;
-mod inspection;
-mod reach;
 mod source;
-mod stepping;
-mod words;
+mod worth;
 
 pub use extreme::Extreme;
-pub use inspection::Fault;
-pub use inspection::FaultDebug;
-pub use inspection::FaultPartialEq;
-pub use inspection::Unsound;
-pub use inspection::UnsoundDebug;
-pub use inspection::UnsoundPartialEq;
-pub use inspection::inspect;
-pub use reach::Reach;
-pub use reach::TooFar;
-pub use reach::TooFarDebug;
-pub use reach::TooFarPartialEq;
 pub use source::Source;
-pub use source::weighted_sum;
-pub use stepping::exact_values;
-pub use words::TooFarDisplay;
-pub use words::UnsoundDisplay;
+pub use worth::best_choice;
+pub use worth::weighted_sum;

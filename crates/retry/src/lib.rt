@@ -1,8 +1,6 @@
 // The retry sheet: events are sent one after the other, each with resends, and a request or a receipt may be lost on the way.
 mod sheet;
 mod stage;
-#[cfg(test)]
-mod tests;
 
 pub use sheet::Sheet;
 pub use sheet::SheetSource;

@@ -1,0 +1,5 @@
+use Rattle.reach.proofs.OneStep.{zeros-everywhere}
+use Rattle.reach.proofs.stepping.zeros.Needs as need
+
+pub returns : need.returns
+returns c = zeros-everywhere 256
