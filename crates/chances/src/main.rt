@@ -1,53 +1,48 @@
-// Prints the exact least and largest chance of a double count, for the retry sheet that one line of standard input asks for.
+// Prints the exact least and largest chance of a double count, for the retry sheet that a line of standard input asks for.
+use figures::BadLine;
 use figures::BadLineDisplay;
-use figures::Decimal;
 use figures::DecimalDisplay;
 use figures::Request;
 use figures::RequestDisplay;
+use inspection::UnsoundDisplay;
+use inspection::inspect;
 use layers::SinkSource;
-use mdp::Reach;
 use mdp::Source;
-use mdp::TooFarDisplay;
-use mdp::UnsoundDisplay;
-use mdp::inspect;
+use reach::Reach;
+use reach::TooFarDisplay;
 use retry::Sheet;
 use retry::SheetSource;
+use rows::Row;
 use std::io;
 
-// One row of the table: what holds within `n` steps from state 0.
 fn print_row(rt: &impl Print, n: u32, reach: &Reach) -> io::Result<()> {
-    let (least, largest, whole) = reach.at(0);
-    let (Some(low), Some(high)) = (
-        Decimal::rounded_down(least, whole),
-        Decimal::rounded_up(largest, whole),
-    ) else {
-        return Ok(());
+    let Some(row) = Row::of(reach) else {
+        return println!(rt, "{n:>4} no chances");
     };
-    println!(
-        rt,
-        "{n:>4} {least:>19} {largest:>19} {whole:>19} {low} {high}"
-    )
+    let least = row.least;
+    let largest = row.largest;
+    let whole = row.whole;
+    let low = row.low;
+    let high = row.high;
+    println!(rt, "{n:>4} {least:>19} {largest:>19} {whole:>19} {low} {high}")
 }
 
 // The rows for 0 to `steps` steps, as far as the values go.
 fn print_table(rt: &impl Print, source: &impl Source, steps: u32) -> io::Result<()> {
-    println!(
-        rt,
-        "   n               least             largest                  of at least  at most"
-    )?;
+    println!(rt, "   n               least             largest                  of at least  at most")?;
     let mut reach = Reach::start(source);
     print_row(rt, 0, &reach)?;
-    for n in 0..steps {
+    for before in 0..steps {
+        let n = before + 1;
         if let Err(far) = reach.step(source) {
-            let n = n + 1;
             return println!(rt, "{n:>4} {far}");
         }
-        print_row(rt, n + 1, &reach)?;
+        print_row(rt, n, &reach)?;
     }
     Ok(())
 }
 
-fn print_request(rt: &impl Print, request: &Request) -> io::Result<()> {
+fn answer(rt: &impl Print, request: &Request) -> io::Result<()> {
     println!(rt, "{request}")?;
     let sheet = Sheet::new(
         request.events,
@@ -58,16 +53,19 @@ fn print_request(rt: &impl Print, request: &Request) -> io::Result<()> {
     );
     let source = sheet.under_sink();
     match inspect(&source) {
-        Err(unsound) => println!(rt, "{unsound}"),
         Ok(()) => print_table(rt, &source, request.steps),
+        Err(unsound) => println!(rt, "{unsound}"),
     }
 }
 
 fn main(rt: LibcRuntime) -> io::Result<()> {
     let mut line = String::new(rt.alloc());
-    rt.read_line(&mut line)?;
-    match Request::parse(line.as_str()) {
+    // What is not text is no line of numbers either.
+    if rt.read_line(&mut line).is_err() {
+        return println!(rt, "{BadLine}");
+    }
+    match Request::parse(line.as_bytes()) {
+        Ok(request) => answer(&rt, &request),
         Err(bad) => println!(rt, "{bad}"),
-        Ok(request) => print_request(&rt, &request),
     }
 }
