@@ -1,20 +1,71 @@
-// Tests of inspections and exact values, on a source of a caller's own.
-use crate::flat::Flat;
-use crate::flat::FlatSource;
+// Tests of inspections and exact values, on a source of a caller's own: it gives its meaning, its letter and the five answers.
+ghost use mathlib.Core.Bool.{cond, _&&_};
+ghost use lib.Dec.{ltb};
 use inspection::Fault;
 use inspection::Unsound;
 use inspection::UnsoundDebug;
 use inspection::UnsoundPartialEq;
 use inspection::inspect;
-use layers::Quotient;
-use layers::QuotientSource;
-use layers::Sink;
-use layers::SinkSource;
+use mdp::Source;
+use quotient::Quotient;
+use quotient::QuotientSource;
 use reach::TooFar;
 use reach::TooFarDebug;
 use reach::TooFarPartialEq;
 use reach::exact_values;
+use sink::Sink;
+use sink::SinkSource;
 use std::test::*;
+
+// The letter of the flat source.
+const FLAT: u8 = b'F';
+
+// Every state has the same number of choices, and every choice the same weight to every state.
+#[derive(Clone, Copy)]
+struct Flat {
+    states: u32,
+    denominator: u32,
+    // The states below this number are goals.
+    goals: u32,
+    choices: u32,
+    weight: u32,
+}
+
+impl Source for Flat as FlatSource {
+    const LETTER: u8 = FLAT;
+
+    ghost meaning = { λ x. record { states = x .states; denominator = x .denominator; goal = λ s. ltb s (x .goals) && ltb s (x .states); choices = λ s. cond (ltb s (x .states)) (x .choices) 0; weight = λ s c t. cond (ltb s (x .states) && ltb c (x .choices) && ltb t (x .states)) (x .weight) 0 } };
+
+    ghost mark = { 70 };
+
+    fn own_letter() -> u8 {
+        FLAT
+    }
+
+    fn states(&self) -> u32 {
+        self.states
+    }
+
+    fn denominator(&self) -> u32 {
+        self.denominator
+    }
+
+    fn is_goal(&self, s: u32) -> bool {
+        s < self.goals && s < self.states
+    }
+
+    fn choices(&self, s: u32) -> u32 {
+        if s < self.states { self.choices } else { 0 }
+    }
+
+    fn weight(&self, s: u32, c: u32, t: u32) -> u32 {
+        if s < self.states && c < self.choices && t < self.states {
+            self.weight
+        } else {
+            0
+        }
+    }
+}
 
 const MAX: u32 = u32::MAX;
 

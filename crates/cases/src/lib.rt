@@ -1,6 +1,4 @@
-// Tests of the library crates, and a source of a caller's own.
-mod flat;
-
+// Tests of the library crates.
 #[cfg(test)]
 mod inspections;
 #[cfg(test)]

@@ -5,9 +5,9 @@ ghost use lib.Dec.{eqb, leb, ltb};
 use inspection::UnsoundDebug;
 use inspection::UnsoundPartialEq;
 use inspection::inspect;
-use layers::Quotient;
-use layers::QuotientSource;
 use mdp::Source;
+use quotient::Quotient;
+use quotient::QuotientSource;
 use std::test::*;
 
 // Four states, of which the last two are goals. From state s one can go to each state up to s.

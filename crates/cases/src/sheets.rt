@@ -4,7 +4,6 @@ use inspection::Unsound;
 use inspection::UnsoundDebug;
 use inspection::UnsoundPartialEq;
 use inspection::inspect;
-use layers::SinkSource;
 use mdp::Source;
 use reach::TooFarDebug;
 use reach::TooFarPartialEq;
@@ -12,6 +11,7 @@ use reach::exact_values;
 use retry::Sheet;
 use retry::SheetSource;
 use retry::sheet_a;
+use sink::SinkSource;
 use std::test::*;
 
 // State 0 is not applied; state 3 is, after its one resend; 4, 5 and 6 are the ends.
@@ -57,5 +57,8 @@ fn chances_of_sheet_a() -> Result<(), Fail> {
     let source = sheet_a().under_sink();
     check_eq(exact_values(&source, 0, 2), Ok((0, 18, 100)))?;
     check_eq(exact_values(&source, 6, 2), Ok((100, 100, 100)))?;
-    check_eq(exact_values(&source, 0, 18), Ok((0, 180000000000000000, 1000000000000000000)))
+    check_eq(
+        exact_values(&source, 0, 18),
+        Ok((0, 180000000000000000, 1000000000000000000)),
+    )
 }

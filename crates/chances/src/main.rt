@@ -6,13 +6,13 @@ use figures::Request;
 use figures::RequestDisplay;
 use inspection::UnsoundDisplay;
 use inspection::inspect;
-use layers::SinkSource;
 use mdp::Source;
 use reach::Reach;
 use reach::TooFarDisplay;
 use retry::Sheet;
 use retry::SheetSource;
 use rows::Row;
+use sink::SinkSource;
 use std::io;
 
 fn print_row(rt: &impl Print, n: u32, reach: &Reach) -> io::Result<()> {
@@ -24,12 +24,18 @@ fn print_row(rt: &impl Print, n: u32, reach: &Reach) -> io::Result<()> {
     let whole = row.whole;
     let low = row.low;
     let high = row.high;
-    println!(rt, "{n:>4} {least:>19} {largest:>19} {whole:>19} {low} {high}")
+    println!(
+        rt,
+        "{n:>4} {least:>19} {largest:>19} {whole:>19} {low} {high}"
+    )
 }
 
 // The rows for 0 to `steps` steps, as far as the values go.
 fn print_table(rt: &impl Print, source: &impl Source, steps: u32) -> io::Result<()> {
-    println!(rt, "   n               least             largest                  of at least  at most")?;
+    println!(
+        rt,
+        "   n               least             largest                  of at least  at most"
+    )?;
     let mut reach = Reach::start(source);
     print_row(rt, 0, &reach)?;
     for before in 0..steps {

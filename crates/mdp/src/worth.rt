@@ -32,7 +32,11 @@ fn best_to<S: Source>(extreme: Extreme, source: &S, s: u32, values: &[u64; 256],
     let mut best: u128 = 0;
     for c in 0..n {
         let offer = weighted_sum(source, s, c, values);
-        best = if c == 0 { offer } else { extreme.better(best, offer) };
+        best = if c == 0 {
+            offer
+        } else {
+            extreme.better(best, offer)
+        };
     }
     best
 }

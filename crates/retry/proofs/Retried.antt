@@ -9,7 +9,7 @@ use Rattle.std.proofs.shelf.Tests.{lt-ltb, le-ltb, ne-eqb, and-left, and-right,
 use Rattle.mdp.specs.Model.{Bounded}
 use Rattle.mdp.specs.Sums.{sum}
 use Rattle.mdp.proofs.Sums.{sum-le, sum-same}
-use Rattle.layers.specs.Sink.{SoundOnceSinked}
+use Rattle.sink.specs.Sink.{SoundOnceSinked}
 use Rattle.retry.specs.declared.stage.Stage.{Stage}
 use Rattle.retry.specs.declared.stage.Stage.the-variants.{Sending, Done, GaveUp, CountedTwice}
 use Rattle.retry.specs.declared.sheet.Sheet.{Sheet}

@@ -4,7 +4,7 @@ use mathlib.Core.Bool.{Bool, true}
 use Prim.Native.Nat.{ℕ}
 use Rattle.mdp.specs.Sums.{sum, best}
 use Rattle.mdp.specs.Values.{expectTo, Value, Most, Least}
-use Rattle.layers.specs.Sink.{sinked}
+use Rattle.sink.specs.Sink.{sinked}
 use Rattle.retry.specs.declared.sheet.Sheet.{Sheet}
 use Rattle.retry.specs.Lawful.{isLawful}
 use Rattle.retry.specs.Sheet.{retried}

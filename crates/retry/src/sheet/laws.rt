@@ -2,7 +2,7 @@
 ghost use mathlib.Core.Path.{_≡_};
 ghost use mathlib.Core.Bool.{true};
 ghost use Rattle.mdp.specs.Values.{Most, Least};
-ghost use Rattle.layers.specs.Sink.{sinked, SoundOnceSinked};
+ghost use Rattle.sink.specs.Sink.{sinked, SoundOnceSinked};
 ghost use Rattle.retry.specs.Sheet.{Numbered, retried};
 ghost use Rattle.retry.specs.SheetA.{IsSheetA};
 use super::Sheet;

@@ -3,13 +3,13 @@ ghost use mathlib.Core.Path.{_≡_};
 ghost use mathlib.Core.Bool.{true};
 ghost use Rattle.mdp.specs.Sound.{Sound};
 ghost use Rattle.mdp.specs.Values.{Most, Least};
-ghost use Rattle.layers.specs.Sink.{sinked};
+ghost use Rattle.sink.specs.Sink.{sinked};
 ghost use Rattle.retry.specs.Lawful.{isLawful};
 ghost use Rattle.retry.specs.Sheet.{Numbered, retried};
 ghost use Rattle.retry.specs.SheetA.{IsSheetA};
 use super::Sheet;
 use super::source::SheetSource;
-use layers::Sink;
+use sink::Sink;
 
 impl Sheet {
     pub fn new(events: u32, resends: u32, denominator: u32, request: u32, receipt: u32) -> Self

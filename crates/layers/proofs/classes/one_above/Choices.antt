@@ -1,6 +1,0 @@
-use Rattle.mdp.specs.Values.{entry}
-use Rattle.layers.specs.Quotient.{OneAbove}
-use Rattle.layers.proofs.classes.one_above.Given as given
-
-abbrev pub Inv-loop-class : given.InvT-loop-class
-Inv-loop-class l = OneAbove (entry (l .classes)) (l .class-index) (l .count)

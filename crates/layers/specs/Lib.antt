@@ -1,2 +1,0 @@
-pub mod Sink
-pub mod Quotient
