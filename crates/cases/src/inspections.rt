@@ -1,10 +1,7 @@
 // Tests of inspections and exact values, on a source of a caller's own: it gives its meaning, its letter and the five answers.
 ghost use mathlib.Core.Bool.{cond, _&&_};
 ghost use lib.Dec.{ltb};
-use inspection::Fault;
 use inspection::Unsound;
-use inspection::UnsoundDebug;
-use inspection::UnsoundPartialEq;
 use inspection::inspect;
 use mdp::Source;
 use quotient::Quotient;
@@ -69,9 +66,12 @@ impl Source for Flat as FlatSource {
 
 const MAX: u32 = u32::MAX;
 
-// What an inspection refuses by.
-fn refused(letter: u8, fault: Fault) -> Result<(), Unsound> {
-    Err(Unsound { letter, fault })
+// What an inspection refuses by: the letter, the number and the place; zeros where it accepts.
+fn refusal(answer: Result<(), Unsound>) -> (u8, u32, u32) {
+    match answer {
+        Ok(()) => (0, 0, 0),
+        Err(unsound) => (unsound.letter, unsound.number(), unsound.place()),
+    }
 }
 
 #[test]
@@ -83,92 +83,100 @@ fn largest_answers_are_refused() -> Result<(), Fail> {
         choices: MAX,
         weight: MAX,
     };
-    check_eq(inspect(&full), refused(b'F', Fault::Limits))?;
-    check_eq(inspect(&Sink::new(full)), refused(b'K', Fault::Limits))?;
-    check_eq(
-        inspect(&Quotient::new(full, &[0, 0])),
-        refused(b'Q', Fault::Limits),
-    )
+    check_eq(refusal(inspect(&full)), (b'F', 6, 0))?;
+    check_eq(refusal(inspect(&Sink::new(full))), (b'K', 6, 0))?;
+    let q = Quotient::new(full, &[0, 0]);
+    check_eq(refusal(inspect(&q)), (b'Q', 6, 0))?;
+    check(q.denominator() == 0 && q.choices(0) == 0 && q.weight(0, 0, 0) == 0)
 }
 
 #[test]
-fn totals_do_not_wrap() -> Result<(), Fail> {
-    // 256 × (2^24 + 1) is 256 modulo 2^32.
-    let wraps = Flat {
+fn the_first_fault_is_named() -> Result<(), Fail> {
+    let sound = Flat {
         states: 256,
         denominator: 256,
         goals: 1,
-        choices: 1,
-        weight: 16777217,
-    };
-    check_eq(inspect(&wraps), refused(b'F', Fault::Weights(0)))?;
-    check_eq(
-        inspect(
-            &Flat {
-                choices: MAX,
-                ..wraps
-            },
-        ),
-        refused(b'F', Fault::Choices(0)),
-    )?;
-    check_eq(
-        inspect(
-            &Flat {
-                choices: 17,
-                ..wraps
-            },
-        ),
-        refused(b'F', Fault::Choices(240)),
-    )?;
-    check_eq(
-        inspect(
-            &Flat {
-                choices: 16,
-                weight: 1,
-                ..wraps
-            },
-        ),
-        Ok(()),
-    )
-}
-
-#[test]
-fn smaller_numbers_go_first() -> Result<(), Fail> {
-    let bad = Flat {
-        states: 3,
-        denominator: 65535,
-        goals: 1,
-        choices: 0,
+        choices: 16,
         weight: 1,
     };
-    check_eq(inspect(&bad), refused(b'F', Fault::Choices(0)))?;
-    check_eq(
-        inspect(
-            &Flat {
-                denominator: 65536,
-                ..bad
+    let cases = [
+        (sound, 0, 0),
+        // A smaller number goes before a lower state.
+        (Flat { states: 0, ..sound }, 6, 0),
+        (
+            Flat {
+                states: 257,
+                ..sound
             },
+            6,
+            0,
         ),
-        refused(b'F', Fault::Limits),
-    )?;
-    check_eq(
-        inspect(
-            &Flat {
+        (
+            Flat {
                 denominator: 0,
-                ..bad
+                choices: 0,
+                ..sound
             },
+            6,
+            0,
         ),
-        refused(b'F', Fault::Limits),
-    )?;
-    check_eq(
-        inspect(&Flat { states: 0, ..bad }),
-        refused(b'F', Fault::Limits),
-    )?;
-    check_eq(
-        inspect(&Flat { states: 257, ..bad }),
-        refused(b'F', Fault::Limits),
-    )?;
-    check_eq(inspect(&Sink::new(bad)), Ok(()))
+        (
+            Flat {
+                denominator: 65536,
+                ..sound
+            },
+            6,
+            0,
+        ),
+        (
+            Flat {
+                choices: 0,
+                weight: 2,
+                ..sound
+            },
+            7,
+            0,
+        ),
+        (
+            Flat {
+                choices: 17,
+                weight: 2,
+                ..sound
+            },
+            7,
+            240,
+        ),
+        (
+            Flat {
+                choices: MAX,
+                ..sound
+            },
+            7,
+            0,
+        ),
+        (
+            Flat {
+                denominator: 65535,
+                ..sound
+            },
+            8,
+            0,
+        ),
+        // 256 × (2^24 + 1) is 256 modulo 2^32: totals do not wrap.
+        (
+            Flat {
+                weight: 16777217,
+                ..sound
+            },
+            8,
+            0,
+        ),
+    ];
+    for (flat, number, place) in cases {
+        let (_, found, at) = refusal(inspect(&flat));
+        check(found == number && at == place)?;
+    }
+    Ok(())
 }
 
 #[test]
@@ -180,19 +188,24 @@ fn values_of_a_flat_source() -> Result<(), Fail> {
         choices: 2,
         weight: 1,
     };
-    check_eq(inspect(&quarters), Ok(()))?;
-    check_eq(exact_values(&quarters, 0, 2), Ok((16, 16, 16)))?;
-    check_eq(exact_values(&quarters, 3, 2), Ok((7, 7, 16)))?;
-    check_eq(exact_values(&quarters, 4, 2), Ok((0, 0, 16)))?;
-    check_eq(
-        exact_values(&quarters, 1, 31),
-        Ok((
-            4611068345031103957,
-            4611068345031103957,
-            4611686018427387904,
-        )),
-    )?;
-    check_eq(exact_values(&quarters, 1, 32), Err(TooFar))?;
+    let cases = [
+        (0, 2, Ok((16, 16, 16))),
+        (3, 2, Ok((7, 7, 16))),
+        (4, 2, Ok((0, 0, 16))),
+        (
+            1,
+            31,
+            Ok((
+                4611068345031103957,
+                4611068345031103957,
+                4611686018427387904,
+            )),
+        ),
+        (1, 32, Err(TooFar)),
+    ];
+    for (s, n, wanted) in cases {
+        check_eq(exact_values(&quarters, s, n), wanted)?;
+    }
     let certain = Flat {
         states: 1,
         denominator: 1,

@@ -2,8 +2,6 @@
 ghost use mathlib.Core.Bool.{cond, _&&_};
 ghost use Prim.Native.Nat.{_+_};
 ghost use lib.Dec.{eqb, leb, ltb};
-use inspection::UnsoundDebug;
-use inspection::UnsoundPartialEq;
 use inspection::inspect;
 use mdp::Source;
 use quotient::Quotient;
@@ -49,7 +47,7 @@ impl Source for Stairs as StairsSource {
 #[test]
 fn classes_have_the_choices_of_their_states() -> Result<(), Fail> {
     let q = Quotient::new(Stairs, &[0, 0, 1, 1]);
-    check_eq(inspect(&q), Ok(()))?;
+    check(inspect(&q).is_ok())?;
     check_eq(q.states(), 2)?;
     check_eq(q.is_goal(0), false)?;
     check_eq(q.is_goal(1), true)?;

@@ -1,8 +1,4 @@
 // Tests of the retry sheet.
-use inspection::Fault;
-use inspection::Unsound;
-use inspection::UnsoundDebug;
-use inspection::UnsoundPartialEq;
 use inspection::inspect;
 use mdp::Source;
 use reach::TooFarDebug;
@@ -35,12 +31,8 @@ fn as_many_events_as_fit() -> Result<(), Fail> {
     check(inspect(&Sheet::new(126, 0, 10, 1, 2).under_sink()).is_ok())?;
     match inspect(&Sheet::new(127, 0, 10, 1, 2).under_sink()) {
         Ok(()) => Err(Fail::new("127 events are too many")),
-        Err(refusal) => check_eq(
-            refusal,
-            Unsound {
-                letter: b'K',
-                fault: Fault::Limits,
-            },
+        Err(refusal) => check(
+            refusal.letter == b'K' && refusal.number() == 6 && refusal.place() == 0,
         ),
     }
 }

@@ -1,14 +1,14 @@
 // Prints the exact least and largest chance of a double count, for the retry sheet that a line of standard input asks for.
-use figures::BadLine;
-use figures::BadLineDisplay;
-use figures::DecimalDisplay;
-use figures::Request;
-use figures::RequestDisplay;
+use decimals::DecimalDisplay;
 use inspection::UnsoundDisplay;
 use inspection::inspect;
 use mdp::Source;
 use reach::Reach;
 use reach::TooFarDisplay;
+use requests::BadLine;
+use requests::BadLineDisplay;
+use requests::Request;
+use requests::RequestDisplay;
 use retry::Sheet;
 use retry::SheetSource;
 use rows::Row;

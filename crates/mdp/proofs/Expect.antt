@@ -1,14 +1,15 @@
 -- Weighted sums over the targets of a choice.
-use mathlib.Core.Path.{_≡_, refl, sym, _∙_, ap, subst₂}
+use mathlib.Core.Path.{_≡_, refl, sym, _∙_, ap}
 use mathlib.Core.List.{List}
 use mathlib.Core.Logic.{inl, inr}
-use Prim.Native.Nat.{ℕ, zero, suc, _+_, _*_, _^_, _≤_, _<_, min}
-use native.Mathlib.Nat.{mul-le-mul, mul-le-mul-left, mul-zero, mul-assoc}
+use Prim.Native.Nat.{ℕ, _+_, _*_, _^_, _≤_, _<_, min}
+use native.Mathlib.Nat.{mul-le-mul, mul-le-mul-left, mul-zero, mul-one, mul-assoc}
 use native.Mathlib.Omega.{arith}
 use lib.ListN.{length}
 use Rattle.std.proofs.shelf.Lists.{getD-past}
 use Rattle.std.proofs.shelf.Tests.{cases-lt}
 use Rattle.mdp.specs.Model.{Model}
+use Rattle.mdp.specs.Sums.{sum}
 use Rattle.mdp.specs.Sound.{Sound}
 use Rattle.mdp.specs.Values.{entry, expectTo, expect}
 use Rattle.mdp.proofs.Sums.{sum-none, sum-more, sum-past, sum-le, sum-same, sum-times}
@@ -66,3 +67,11 @@ pub expect-whole :
     → expect m (λ t. x) s c ≡ m .denominator * x
 unfolding expectTo
 expect-whole m sound s c x l r = sum-times (m .states) (m .weight s c) x ∙ ap (λ z. z * x) (sound .full s c l r)
+
+-- where every target has the value 1, a choice is worth the sum of its weights
+pub expect-ones :
+    (m : Model) (xs : List ℕ) (s c : ℕ) → m .states ≤ 256 → ((k : ℕ) → k < 256 → entry xs k ≡ 1)
+    → expect m (entry xs) s c ≡ sum (m .states) (m .weight s c)
+unfolding expectTo
+expect-ones m xs s c few ones =
+    sum-same (m .states) _ (m .weight s c) (λ t l. ap (λ x. m .weight s c t * x) (ones t (omega arith)) ∙ mul-one (m .weight s c t))

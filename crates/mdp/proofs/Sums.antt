@@ -1,13 +1,12 @@
 -- Sums over the numbers below n.
-use mathlib.Core.Path.{_≡_, refl, sym, _∙_, ap, subst₂}
+use mathlib.Core.Path.{_≡_, refl, sym, _∙_, ap}
 use mathlib.Core.Bool.{cond}
-use mathlib.Core.Logic.{_⊎_, inl, inr}
-use Prim.Native.Nat.{ℕ, zero, suc, _+_, _*_, _≤_, _<_, min}
-use native.Mathlib.Nat.{mul-le-mul-left, zero-lt-suc, min-eq-left, min-eq-right}
+use mathlib.Core.Logic.{inl, inr}
+use Prim.Native.Nat.{ℕ, zero, suc, _+_, _*_, _≤_, _<_}
 use native.Mathlib.Numerals.{add-one}
 use native.Mathlib.Omega.{arith}
 use lib.Dec.{eqb}
-use Rattle.std.proofs.shelf.Tests.{eq-eqb, ne-eqb, cases-eq, cases-lt, cond-true, cond-false}
+use Rattle.std.proofs.shelf.Tests.{eq-eqb, ne-eqb, cases-eq, cond-true, cond-false}
 use Rattle.mdp.specs.Sums.{sum}
 
 -- the start and the step of a loop that adds up
@@ -84,3 +83,8 @@ unfolding sum
 sum-past zero k f l h = let e : k ≡ 0 = omega arith in rw e refl
 sum-past (suc n) k f l h =
     elim (cases-eq k (suc n)) [ inl e ↦ rw e refl | inr e ↦ omega (arith, sum-past n k f (omega arith) h, h n (omega arith)) ]
+
+pub sum-const : (n a : ℕ) → sum n (λ t. a) ≡ n * a
+unfolding sum
+sum-const zero a = omega arith
+sum-const (suc n) a = omega (arith, sum-const n a)

@@ -1,7 +1,7 @@
 -- The exact values, step by step, and their laws.
-use mathlib.Core.Path.{_≡_, refl, sym, _∙_, ap, subst}
-use mathlib.Core.Bool.{Bool, true, false, cond}
-use mathlib.Core.Logic.{_⊎_, inl, inr}
+use mathlib.Core.Path.{_≡_, sym, _∙_}
+use mathlib.Core.Bool.{true, false}
+use mathlib.Core.Logic.{inl, inr}
 use Prim.Native.Nat.{ℕ, zero, suc, _+_, _*_, _^_, _≤_, _<_}
 use native.Mathlib.Nat.{pow-zero, pow-suc, pow-succ', le-of-eq, le-trans, mul-comm}
 use native.Mathlib.Numerals.{add-one}
@@ -13,8 +13,8 @@ use Rattle.mdp.specs.Model.{Model, Bounded}
 use Rattle.mdp.specs.Sums.{best}
 use Rattle.mdp.specs.Sound.{Sound}
 use Rattle.mdp.specs.Values.{expect, Value, Most, Least, ValueLaws}
-use Rattle.mdp.proofs.Expect.{expect-le, expect-same, expect-times, expect-whole}
-use Rattle.mdp.proofs.Bests.{best-has, best-le, best-same, best-times, least-le-largest}
+use Rattle.mdp.proofs.Expect.{expect-le, expect-times, expect-whole}
+use Rattle.mdp.proofs.Bests.{best-has, best-le, best-times, least-le-largest}
 
 module _ (e : Extreme) (m : Model) (s : ℕ) where
   pub value-goal : (n : ℕ) → m .goal s ≡ true → Value e m n s ≡ m .denominator ^ n

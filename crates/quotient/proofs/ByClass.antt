@@ -9,7 +9,7 @@ use lib.Dec.{eqb}
 use Rattle.std.proofs.shelf.Tests.{cond-true, cond-false, eq-eqb, ne-eqb, cases-eq, and-from, and-left, and-right, or-from, or-left, or-right}
 use Rattle.mdp.specs.Model.{Model}
 use Rattle.mdp.specs.Sums.{sum}
-use Rattle.mdp.proofs.Sums.{sum-none, sum-more, sum-same, sum-swap, sum-one, sum-le, le-sum}
+use Rattle.mdp.proofs.Sums.{sum-none, sum-more, sum-same, sum-swap, sum-one, sum-const, sum-le, le-sum}
 use Rattle.quotient.specs.Quotient.{Occurs, before, intoTo, goalTo}
 
 -- the start and the step of each loop over the states
@@ -95,11 +95,6 @@ pub le-class :
 le-class n cls f s a l e =
     omega (arith, le-sum n (λ t. cond (eqb (cls t) a) (f t) 0) s l, cond-true (eqb (cls s) a) (f s) 0 (eq-eqb (cls s) a e))
 
-sum-ones : (n : ℕ) → sum n (λ t. 1) ≡ n
-unfolding sum
-sum-ones zero = refl
-sum-ones (suc n) = omega (arith, sum-ones n)
-
 -- there are no more classes than states
 pub few-classes :
     (n k : ℕ) (cls : ℕ → ℕ) → ((t : ℕ) → t < n → cls t < k) → ((a : ℕ) → a < k → Occurs cls n a) → k ≤ n
@@ -107,7 +102,7 @@ few-classes n k cls h o =
     omega (
       arith,
       sum-by-class n k cls (λ t. 1) h,
-      sum-ones n,
-      sum-ones k,
+      sum-const n 1,
+      sum-const k 1,
       sum-le k (λ b. 1) (λ b. sum n (λ t. cond (eqb (cls t) b) 1 0)) (λ b l. le-class n cls (λ t. 1) (o b l .0) b (o b l .1) (o b l .2)),
     )

@@ -1,32 +1,23 @@
 -- One step of the values, as it is worked out.
 use mathlib.Core.Path.{_≡_, refl, sym, _∙_, ap, subst}
-use mathlib.Core.Bool.{Bool, true, false, cond}
+use mathlib.Core.Bool.{cond}
 use mathlib.Core.List.{List}
-use mathlib.Core.Logic.{_⊎_, inl, inr}
-use Prim.Native.Nat.{ℕ, zero, suc, _+_, _-_, _*_, _^_, _≤_, _<_, min}
+use mathlib.Core.Logic.{inl, inr}
+use Prim.Native.Nat.{ℕ, suc, _+_, _-_, _*_, _^_, _≤_, _<_, min}
 use native.Mathlib.Nat.{pow-suc, pow-le-pow-right}
 use native.Mathlib.Numerals.{add-one}
 use native.Mathlib.Omega.{arith}
-use lib.ListN.{length, getD, replicate, getD-replicate, length-replicate}
+use lib.ListN.{length, getD}
 use Rattle.std.proofs.shelf.Lists.{getD-past}
 use Rattle.std.proofs.shelf.Tests.{cond-true, cond-false, cases-bool, cases-lt}
 use Rattle.mdp.specs.declared.extreme.Extreme.{Extreme}
 use Rattle.mdp.specs.Model.{Model, Bounded}
-use Rattle.mdp.specs.Sums.{best}
 use Rattle.mdp.specs.Sound.{Sound}
 use Rattle.mdp.specs.Values.{entry, expect, Value}
 use Rattle.reach.specs.Reach.{OutOfRange, stepped}
 use Rattle.mdp.proofs.Expect.{expect-same}
 use Rattle.mdp.proofs.Bests.{best-none, best-same}
-use Rattle.mdp.proofs.Values.{value-goal, value-start, value-step, value-whole}
-
--- a list of zeros, and past it the default
-pub zeros-everywhere : (n k : ℕ) → getD {A = ℕ} (replicate n 0) k 0 ≡ 0
-zeros-everywhere n k =
-    elim (cases-lt k n) [
-      | inl l ↦ getD-replicate n k 0 0 l
-      | inr l ↦ getD-past (replicate n 0) k 0 (rw (length-replicate {A = ℕ} n 0) l)
-    ]
+use Rattle.mdp.proofs.Values.{value-goal, value-step, value-whole}
 
 -- outside the model a step gives 0
 pub stepped-outside : (e : Extreme) (m : Model) → Bounded m → (power : ℕ) (v : ℕ → ℕ) (s : ℕ) → m .states ≤ s → stepped e m power v s ≡ 0

@@ -1,10 +1,9 @@
 // How the values of all states are worked out, one step at a time.
 ghost use mathlib.Core.Path.{_≡_};
-ghost use mathlib.Core.Bool.{cond};
-ghost use Prim.Native.Nat.{ℕ, _+_, _-_, _*_, _^_, _≤_, _<_, min};
+ghost use Prim.Native.Nat.{ℕ, _+_, _-_, _*_, _^_, _<_, min};
 ghost use lib.ListN.{getD};
 ghost use Rattle.std.specs.declared.option.Option.the-variants.{Some};
-ghost use Rattle.mdp.specs.Values.{entry, expect, ValueLaws};
+ghost use Rattle.mdp.specs.Values.{entry, ValueLaws};
 ghost use Rattle.reach.specs.Reach.{farNumber, farPlace, farWords, Marks, Begun, Reached, Stepped, stepped, Answered};
 use crate::reach::Reach;
 use crate::reach::TooFar;

@@ -2,13 +2,13 @@
 use mathlib.Core.Path.{_≡_, sym, _∙_, ap}
 use mathlib.Core.Bool.{true, false}
 use mathlib.Core.Logic.{inl, inr}
-use Prim.Native.Nat.{ℕ, zero, suc, _+_, _*_, _≤_, _<_, max}
+use Prim.Native.Nat.{ℕ, _+_, _≤_, _<_, max}
 use native.Mathlib.Omega.{arith}
 use lib.Dec.{ltb}
 use Rattle.std.proofs.shelf.Tests.{lt-ltb, le-ltb, ne-eqb, and-left, and-right, cases-bool, cases-lt, cond-true, cond-false}
 use Rattle.mdp.specs.Model.{Bounded}
 use Rattle.mdp.specs.Sums.{sum}
-use Rattle.mdp.proofs.Sums.{sum-le, sum-same}
+use Rattle.mdp.proofs.Sums.{sum-le, sum-same, sum-const}
 use Rattle.sink.specs.Sink.{SoundOnceSinked}
 use Rattle.retry.specs.declared.stage.Stage.{Stage}
 use Rattle.retry.specs.declared.stage.Stage.the-variants.{Sending, Done, GaveUp, CountedTwice}
@@ -78,11 +78,6 @@ two-choices (Sending i j false) = omega arith
 two-choices Done = omega arith
 two-choices GaveUp = omega arith
 two-choices CountedTwice = omega arith
-
-sum-const : (n a : ℕ) → sum n (λ s. a) ≡ n * a
-unfolding sum
-sum-const zero a = omega arith
-sum-const (suc n) a = omega (arith, sum-const n a)
 
 full-inside : (x : Sheet) (s c : ℕ) → x .lawful ≡ true → s < statesOf x → c < retried x .choices s → sum (statesOf x) (retried x .weight s c) ≡ x .denominator
 full-inside x s c h l k =

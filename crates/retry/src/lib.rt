@@ -5,4 +5,3 @@ mod stage;
 pub use sheet::Sheet;
 pub use sheet::SheetSource;
 pub use sheet::sheet_a;
-pub use stage::Stage;

@@ -1,10 +1,10 @@
 -- The values of a sound model are shares of their whole.
 use mathlib.Core.Path.{_≡_}
-use mathlib.Core.Logic.{_⊎_, inl, inr}
-use Prim.Native.Nat.{ℕ, _^_, _≤_, _<_}
+use mathlib.Core.Logic.{inl, inr}
+use Prim.Native.Nat.{ℕ, _^_, _≤_}
 use native.Mathlib.Nat.{one-le-pow}
 use native.Mathlib.Omega.{arith}
-use Rattle.figures.specs.Decimal.{NoShare}
+use Rattle.decimals.specs.Decimal.{NoShare}
 use Rattle.mdp.specs.declared.extreme.Extreme.{Extreme}
 use Rattle.mdp.specs.Model.{Model, Bounded}
 use Rattle.mdp.specs.Sound.{Sound}

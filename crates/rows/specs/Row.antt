@@ -3,7 +3,7 @@ use mathlib.Core.Path.{_≡_}
 use Prim.Native.Nat.{ℕ, _^_}
 use Rattle.std.specs.declared.option.Option.{Option}
 use Rattle.std.specs.declared.option.Option.the-variants.{Some, None}
-use Rattle.figures.specs.Decimal.{NotAbove, NotBelow}
+use Rattle.decimals.specs.Decimal.{NotAbove, NotBelow}
 use Rattle.mdp.specs.Model.{Model}
 use Rattle.mdp.specs.Values.{Most, Least}
 use Rattle.rows.specs.declared.row.Row.{Row}

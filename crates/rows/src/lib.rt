@@ -1,11 +1,10 @@
 // One row of a table of chances: what holds of state 0 within a number of steps.
-ghost use mathlib.Core.Path.{_≡_};
 ghost use Prim.Native.Nat.{ℕ};
 ghost use Rattle.mdp.specs.Model.{Model, Bounded};
 ghost use Rattle.mdp.specs.Sound.{Sound};
 ghost use Rattle.reach.specs.Reach.{Reaches};
 ghost use Rattle.rows.specs.Row.{Exact};
-use figures::Decimal;
+use decimals::Decimal;
 use reach::Reach;
 
 mod row;

@@ -1,4 +1,4 @@
-use figures::Decimal;
+use decimals::Decimal;
 
 // The least and the largest value and the whole that both are shares of; and the shares as decimals, rounded to the safe side.
 #[derive(Clone, Copy)]

@@ -1,16 +1,16 @@
 -- The sink layer makes every state move.
-use mathlib.Core.Path.{_≡_, refl, sym, _∙_, ap, subst}
-use mathlib.Core.Bool.{Bool, true, false, cond, _&&_}
-use mathlib.Core.Logic.{_⊎_, inl, inr}
-use Prim.Native.Nat.{ℕ, zero, suc, _+_, _≤_, _<_, max}
+use mathlib.Core.Path.{_≡_, _∙_}
+use mathlib.Core.Bool.{true, false, cond, _&&_}
+use mathlib.Core.Logic.{inl, inr}
+use Prim.Native.Nat.{ℕ, _<_, max}
 use native.Mathlib.Omega.{arith}
-use lib.Dec.{ltb, eqb}
-use Rattle.std.proofs.shelf.Tests.{and-parts, eqb-true, cases-bool, cond-true, cond-false, and-cases, eqb-false, eq-eqb, ne-eqb, lt-ltb, and-from, and-left, both-ways, ltb-false}
+use lib.Dec.{eqb}
+use Rattle.std.proofs.shelf.Tests.{cases-bool, cond-true, cond-false}
 use Rattle.std.proofs.shelf.Ways.{tells}
 use Rattle.mdp.specs.Model.{Model}
 use Rattle.mdp.specs.Sums.{sum}
 use Rattle.mdp.specs.Sound.{Sound}
-use Rattle.mdp.proofs.Sums.{sum-le, sum-same, sum-only}
+use Rattle.mdp.proofs.Sums.{sum-same, sum-only}
 use Rattle.sink.specs.Sink.{stuck, sinked, SoundOnceSinked}
 
 -- a state of the model has at least one choice now, and no more than it had otherwise

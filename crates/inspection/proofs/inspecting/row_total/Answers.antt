@@ -1,9 +1,8 @@
-use borrow.Author.Needs.{needs}
-use Rattle.mdp.proofs.Sums.{sum-none, sum-more}
+use mathlib.Core.Path.{_∙_}
+use Rattle.mdp.proofs.Expect.{expect-ones}
 use Rattle.inspection.proofs.inspecting.row_total.Needs as need
 
-pub loop-t-holds : need.loop-t-holds
-loop-t-holds g c = search (needs, sum-none)
-
-pub loop-t-again : need.loop-t-again
-loop-t-again g c = search (needs, sum-more)
+pub returns : need.returns
+returns g c = λ few.
+    c .weighted-sum .ensures
+    ∙ expect-ones (g .S·Source .meaning (c .args .source .now)) (c .ones .result) (c .args .s) (c .args .c) few (c .ones .ensures)

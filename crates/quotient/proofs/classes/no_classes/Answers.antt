@@ -1,5 +1,5 @@
-use Rattle.quotient.proofs.Filled.{zeros}
+use Rattle.mdp.proofs.Zeros.{zeros-everywhere}
 use Rattle.quotient.proofs.classes.no_classes.Needs as need
 
 pub returns : need.returns
-returns c = zeros 256
+returns c = zeros-everywhere 256

@@ -1,8 +1,8 @@
 use mathlib.Core.Path.{_≡_, refl, sym, _∙_, ap, subst}
-use mathlib.Core.Logic.{inl, inr}
+use mathlib.Core.Logic.{inl}
 use native.Mathlib.Nat.{pow-zero}
 use native.Mathlib.Omega.{arith}
-use Prim.Native.Nat.{_+_, _*_, _^_}
+use Prim.Native.Nat.{_+_, _^_}
 use Rattle.std.proofs.shelf.Results.{err-from-errBy}
 use Rattle.mdp.specs.Sound.{Sound}
 use Rattle.reach.specs.Reach.{OutOfRange, Reaches}

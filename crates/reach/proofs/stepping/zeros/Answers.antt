@@ -1,4 +1,4 @@
-use Rattle.reach.proofs.OneStep.{zeros-everywhere}
+use Rattle.mdp.proofs.Zeros.{zeros-everywhere}
 use Rattle.reach.proofs.stepping.zeros.Needs as need
 
 pub returns : need.returns

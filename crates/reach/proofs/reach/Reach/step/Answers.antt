@@ -1,7 +1,6 @@
-use mathlib.Core.Path.{_≡_, refl, sym, _∙_, ap, ap₂}
+use mathlib.Core.Path.{refl, ap}
 use native.Mathlib.Omega.{arith}
-use Prim.Native.Nat.{_+_, _*_, _^_}
-use borrow.Author.Needs.{needs}
+use Prim.Native.Nat.{_+_, _*_}
 use Rattle.mdp.specs.declared.extreme.Extreme.the-variants.{Min, Max}
 use Rattle.mdp.specs.Values.{entry}
 use Rattle.reach.proofs.OneStep.{next-values, power-more}

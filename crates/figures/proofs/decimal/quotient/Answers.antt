@@ -1,6 +1,0 @@
-use borrow.Author.Needs.{needs}
-use Rattle.figures.proofs.Shares.{millionths-fit}
-use Rattle.figures.proofs.decimal.quotient.Needs as need
-
-pub cast-result-2 : need.cast-result-2
-cast-result-2 c = let fits = millionths-fit (c .args .x) (c .args .whole) (c .pre .share) in search needs
