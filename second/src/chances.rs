@@ -46,6 +46,7 @@ pub fn answer(input: &[u8]) -> String {
 }
 
 fn table(out: &mut String, model: &Graph, steps: u64) {
+    out.push_str("Chances of a double count within n steps from state 0, whatever the server does:\n");
     out.push_str("   n               least             largest                  of at least  at most\n");
     let mut low: Vec<u128> = model.goal.iter().map(|g| u128::from(*g)).collect();
     let mut high = low.clone();

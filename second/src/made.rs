@@ -83,7 +83,7 @@ pub fn line(draws: &mut Draws) -> Vec<u8> {
 /// One byte taken away, put in or changed.
 fn damage(draws: &mut Draws, line: &mut Vec<u8>) {
     let at = draws.below(line.len() as u64) as usize;
-    let byte = draws.one_of(b"0x+-.,; 9\t");
+    let byte = draws.one_of(b"0x+-.,; 9\t\r\x0b\0\x80\xff");
     match draws.below(3) {
         0 => {
             line.remove(at);

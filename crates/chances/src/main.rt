@@ -34,6 +34,10 @@ fn print_row(rt: &impl Print, n: u32, reach: &Reach) -> io::Result<()> {
 fn print_table(rt: &impl Print, source: &impl Source, steps: u32) -> io::Result<()> {
     println!(
         rt,
+        "Chances of a double count within n steps from state 0, whatever the server does:"
+    )?;
+    println!(
+        rt,
         "   n               least             largest                  of at least  at most"
     )?;
     let mut reach = Reach::start(source);

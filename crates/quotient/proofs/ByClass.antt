@@ -10,7 +10,8 @@ use Rattle.std.proofs.shelf.Tests.{cond-true, cond-false, eq-eqb, ne-eqb, cases
 use Rattle.mdp.specs.Model.{Model}
 use Rattle.mdp.specs.Sums.{sum}
 use Rattle.mdp.proofs.Sums.{sum-none, sum-more, sum-same, sum-swap, sum-one, sum-const, sum-le, le-sum}
-use Rattle.quotient.specs.Quotient.{Occurs, before, intoTo, goalTo}
+use Rattle.quotient.specs.Classes.{Occurs}
+use Rattle.quotient.specs.Quotient.{before, intoTo, goalTo}
 
 -- the start and the step of each loop over the states
 pub before-none : (m : Model) (cls : ℕ → ℕ) (a : ℕ) → before m cls a 0 ≡ 0

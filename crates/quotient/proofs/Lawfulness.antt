@@ -6,7 +6,8 @@ use native.Mathlib.Omega.{arith}
 use borrow.Author.Count.{below-more}
 use Rattle.std.proofs.shelf.Tests.{cases-lt}
 use Rattle.mdp.specs.Model.{Model}
-use Rattle.quotient.specs.Quotient.{OneAbove, Occurs, Agrees, Lawful, Counts}
+use Rattle.quotient.specs.Classes.{Occurs, Agrees, Lawful, Counts}
+use Rattle.quotient.specs.Working.{OneAbove}
 
 pub above-more : (cls : ℕ → ℕ) (n r : ℕ) → OneAbove cls n r → OneAbove cls (n + 1) (max r (cls n + 1))
 above-more cls n r h = (

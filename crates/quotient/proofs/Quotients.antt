@@ -12,7 +12,9 @@ use Rattle.mdp.specs.Sums.{sum}
 use Rattle.mdp.specs.Sound.{Sound}
 use Rattle.mdp.proofs.Sums.{sum-same, sum-le, sum-zero, sum-only, sum-grows}
 use Rattle.std.specs.declared.option.Option.the-variants.{Some}
-use Rattle.quotient.specs.Quotient.{Lawful, Matched, Owner, before, intoTo, into, owns, choicesOf, weightOf, quotient}
+use Rattle.quotient.specs.Classes.{Lawful}
+use Rattle.quotient.specs.Quotient.{Matched, before, intoTo, into, owns, choicesOf, weightOf, quotient}
+use Rattle.quotient.specs.Working.{Owner}
 use Rattle.quotient.proofs.ByClass.{before-none, before-more, goal-in, no-goal, sum-by-class, le-class, few-classes}
 
 -- past its classes, choices and targets a quotient has nothing, whatever its list

@@ -5,40 +5,11 @@ use mathlib.Core.List.{List}
 use Prim.Native.Nat.{ℕ, zero, suc, _+_, _-_, _^_, _≤_, _<_, min}
 use lib.Dec.{eqb, leb, ltb}
 use lib.ListN.{length}
-use Rattle.std.specs.declared.option.Option.{Option}
-use Rattle.std.specs.declared.option.Option.the-variants.{Some, None}
 use Rattle.mdp.specs.Model.{Model}
 use Rattle.mdp.specs.Sums.{sum}
 use Rattle.mdp.specs.Sound.{Sound}
 use Rattle.mdp.specs.Values.{entry}
-
--- How a model is divided: state s is of class cls s, and the classes are numbered from 0.
-
--- r is the smallest number above the classes of the states below n
-abbrev pub OneAbove : (ℕ → ℕ) → ℕ → ℕ → Type 0
-OneAbove cls n r = ((s : ℕ) → s < n → cls s < r) × ((k : ℕ) → ((s : ℕ) → s < n → cls s < k) → r ≤ k)
-
--- class a is the class of some state below n
-abbrev pub Occurs : (ℕ → ℕ) → ℕ → ℕ → Type 0
-Occurs cls n a = (s : ℕ) × (s < n) × (cls s ≡ a)
-
--- the classmates of s below n are goals if and only if s is
-abbrev pub Agrees : Model → (ℕ → ℕ) → ℕ → ℕ → Type 0
-Agrees m cls n s = (t : ℕ) → t < n → cls s ≡ cls t → m .goal s ≡ m .goal t
-
--- a list of this length divides the states into exactly count classes, and classmates agree on the goal mark
-pub record Lawful (m : Model) (cls : ℕ → ℕ) (listed count : ℕ) : Type 0 where
-  pub someStates : 1 ≤ m .states
-  pub fewStates : m .states ≤ 256
-  pub whole : listed ≡ m .states
-  pub within : (s : ℕ) → s < m .states → cls s < count
-  pub occur : (a : ℕ) → a < count → Occurs cls (m .states) a
-  pub agree : (s : ℕ) → s < m .states → Agrees m cls (m .states) s
-
--- count is the number of classes of a lawful list, and 0 of any other
-pub record Counts (m : Model) (cls : ℕ → ℕ) (listed count : ℕ) : Type 0 where
-  pub every : (k : ℕ) → Lawful m cls listed k → count ≡ k
-  pub holds : 1 ≤ count → Lawful m cls listed count
+use Rattle.quotient.specs.Classes.{Counts}
 
 -- Sums of weights and of choices stop at 4,294,967,295.
 abbrev pub capped : ℕ → ℕ
@@ -83,12 +54,6 @@ quotient m cls count =
       choices = λ a. cond (ltb a count) (choicesOf m cls a) 0;
       weight = λ a c b. cond (ltb a count && (ltb b count && ltb c (choicesOf m cls a))) (weightOf m cls a c b) 0;
     }
-
--- whose choice is choice c of class a: the state, and the choice's number there; None where the class has no such choice
-abbrev pub Owner : Model → (ℕ → ℕ) → ℕ → ℕ → Option (ℕ × ℕ) → Type 0
-Owner m cls a c None = before m cls a (m .states) ≤ c
-Owner m cls a c (Some p) =
-    (p .0 < m .states) × (cls (p .0) ≡ a) × (before m cls a (p .0) + p .1 ≡ c) × (p .1 < m .choices (p .0))
 
 -- A state and its class are alike: choice d of state s is choice before m cls (cls s) s + d of its class, and gives each class what the
 -- states of that class are given.

@@ -4,7 +4,9 @@ ghost use Prim.Native.Nat.{ℕ, _<_, _≤_};
 ghost use lib.ListN.{length, getD};
 ghost use Rattle.std.specs.Orderings.{Decides};
 ghost use Rattle.mdp.specs.Values.{entry};
-ghost use Rattle.quotient.specs.Quotient.{OneAbove, Occurs, Agrees, Counts, Divided};
+ghost use Rattle.quotient.specs.Classes.{Occurs, Agrees, Counts};
+ghost use Rattle.quotient.specs.Quotient.{Divided};
+ghost use Rattle.quotient.specs.Working.{OneAbove};
 use mdp::Source;
 
 // One above the largest class.

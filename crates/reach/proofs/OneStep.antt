@@ -14,23 +14,24 @@ use Rattle.mdp.specs.declared.extreme.Extreme.{Extreme}
 use Rattle.mdp.specs.Model.{Model, Bounded}
 use Rattle.mdp.specs.Sound.{Sound}
 use Rattle.mdp.specs.Values.{entry, expect, Value}
-use Rattle.reach.specs.Reach.{OutOfRange, stepped}
+use Rattle.reach.specs.Reach.{OutOfRange}
+use Rattle.reach.specs.Working.{nextValue}
 use Rattle.mdp.proofs.Expect.{expect-same}
 use Rattle.mdp.proofs.Bests.{best-none, best-same}
 use Rattle.mdp.proofs.Values.{value-goal, value-step, value-whole}
 
 -- outside the model a step gives 0
-pub stepped-outside : (e : Extreme) (m : Model) → Bounded m → (power : ℕ) (v : ℕ → ℕ) (s : ℕ) → m .states ≤ s → stepped e m power v s ≡ 0
-stepped-outside e m b power v s l =
+pub next-outside : (e : Extreme) (m : Model) → Bounded m → (power : ℕ) (v : ℕ → ℕ) (s : ℕ) → m .states ≤ s → nextValue e m power v s ≡ 0
+next-outside e m b power v s l =
     cond-false (m .goal s) power _ (b .goals s l)
     ∙ rw (b .rows s l, best-none e (expect m v s)) refl
 
 -- for a sound model a step from the values of k steps gives those of one step more, while the power is in range
-pub stepped-value :
+pub next-value-is :
     (e : Extreme) (m : Model) → Bounded m → Sound m → (v : ℕ → ℕ) (k s : ℕ) → ((t : ℕ) → v t ≡ Value e m k t)
     → m .denominator ^ suc k ≤ 2 ^ 62
-    → stepped e m (m .denominator ^ suc k) v s ≡ Value e m (suc k) s
-stepped-value e m b sound v k s h small =
+    → nextValue e m (m .denominator ^ suc k) v s ≡ Value e m (suc k) s
+next-value-is e m b sound v k s h small =
     elim (cases-bool (m .goal s)) [
       | inl g ↦ cond-true (m .goal s) (m .denominator ^ suc k) _ g ∙ sym (value-goal e m s (suc k) g)
       | inr g ↦
@@ -69,14 +70,14 @@ module _ (e : Extreme) (m : Model) (b : Bounded m) (sound : Sound m) (xs : List 
   -- the values for one step more than k
   pub next-values :
       (v : ℕ → ℕ) (k power : ℕ) → ((t : ℕ) → v t ≡ Value e m k t) → power ≡ m .denominator ^ (k + 1) → power ≤ 2 ^ 62
-      → ((s : ℕ) → s < 256 → getD xs s 0 ≡ stepped e m power v s)
+      → ((s : ℕ) → s < 256 → getD xs s 0 ≡ nextValue e m power v s)
       → (s : ℕ) → entry xs s ≡ Value e m (k + 1) s
   next-values v k power old is small h s =
       let whole : power ≡ m .denominator ^ suc k = is ∙ ap (λ i. m .denominator ^ i) (add-one k) in
       let near : m .denominator ^ suc k ≤ 2 ^ 62 = subst (λ p. p ≤ 2 ^ 62) whole small in
-      agrees-everywhere xs (stepped e m power v) long h (λ t l. stepped-outside e m b power v t (omega (arith, sound .fewStates))) s
-      ∙ ap (λ p. stepped e m p v s) whole
-      ∙ stepped-value e m b sound v k s old near
+      agrees-everywhere xs (nextValue e m power v) long h (λ t l. next-outside e m b power v t (omega (arith, sound .fewStates))) s
+      ∙ ap (λ p. nextValue e m p v s) whole
+      ∙ next-value-is e m b sound v k s old near
       ∙ ap (λ i. Value e m i s) (sym (add-one k))
 
 -- one more power of the denominator

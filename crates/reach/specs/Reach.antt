@@ -1,19 +1,16 @@
--- What is computed of the exact values, and when it is refused.
+-- What a call for exact values answers, and when it is refused.
 use mathlib.Core.Path.{_≡_}
-use mathlib.Core.Bool.{cond}
 use mathlib.Core.List.{List}
 use mathlib.Core.Logic.{_⊎_}
-use Prim.Native.Nat.{ℕ, _+_, _-_, _*_, _^_, _<_, min}
+use Prim.Native.Nat.{ℕ, _+_, _*_, _^_, _<_}
 use lib.Chars.{codes}
 use Rattle.std.specs.declared.result.Result.{Result}
 use Rattle.std.specs.declared.result.Result.the-variants.{Ok, Err}
-use Rattle.mdp.specs.declared.extreme.Extreme.{Extreme}
 use Rattle.reach.specs.declared.reach.Reach.{Reach}
 use Rattle.reach.specs.declared.reach.TooFar.{TooFar}
 use Rattle.mdp.specs.Model.{Model}
-use Rattle.mdp.specs.Sums.{best}
 use Rattle.mdp.specs.Sound.{Sound}
-use Rattle.mdp.specs.Values.{entry, expect, Most, Least}
+use Rattle.mdp.specs.Values.{entry, Most, Least}
 
 -- the number of the refusal; its place is 0
 abbrev pub farNumber : TooFar → ℕ
@@ -29,20 +26,14 @@ farWords x = codes "refused by 18 at place 0: more than 1000 steps, or a power o
 abbrev pub OutOfRange : ℕ → ℕ → Type 0
 OutOfRange steps power = (1000 < steps) ⊎ (2 ^ 62 < power)
 
--- it holds the values of every state for k steps
+-- v holds the values of every state for k steps
 pub record Reaches (m : Model) (k : ℕ) (v : Reach) : Type 0 where
   pub steps : v .steps ≡ k
   pub power : v .power ≡ m .denominator ^ k
   pub least : (s : ℕ) → entry (v .least) s ≡ Least m k s
   pub largest : (s : ℕ) → entry (v .largest) s ≡ Most m k s
 
--- the list has 1 at goals and 0 elsewhere: the values for no steps
-pub record Marks (m : Model) (xs : List ℕ) : Type 0 where
-  pub whole : 1 ≡ m .denominator ^ 0
-  pub least : Sound m → (s : ℕ) → entry xs s ≡ Least m 0 s
-  pub largest : Sound m → (s : ℕ) → entry xs s ≡ Most m 0 s
-
--- the values for no steps
+-- v holds the values for no steps
 pub record Begun (m : Model) (v : Reach) : Type 0 where
   pub steps : v .steps ≡ 0
   pub power : v .power ≡ 1
@@ -58,15 +49,6 @@ pub record Advanced (m : Model) (old new : Reach) : Type 0 where
 abbrev pub Stepped : Model → Reach → Result Unit TooFar → Reach → Type 0
 Stepped m old (Ok _) new = Advanced m old new
 Stepped m old (Err _) new = OutOfRange (old .steps + 1) (old .power * m .denominator) × (new ≡ old)
-
--- one step from the values v, kept within 64 bits; for a sound model that cuts nothing off
-abbrev pub stepped : Extreme → Model → ℕ → (ℕ → ℕ) → ℕ → ℕ
-stepped e m power v s = cond (m .goal s) power (min (best e (m .choices s) (expect m v s)) (2 ^ 64 - 1))
-
--- the values of all states for n steps, or too far
-abbrev pub Reached : Model → ℕ → Result Reach TooFar → Type 0
-Reached m n (Ok v) = (v .power ≡ m .denominator ^ n) × (Sound m → Reaches m n v)
-Reached m n (Err _) = OutOfRange n (m .denominator ^ n)
 
 -- the answer to: what are the values of s for n steps? The least, the largest and the power, or too far.
 abbrev pub Answered : Model → ℕ → ℕ → Result (ℕ × ℕ × ℕ) TooFar → Type 0

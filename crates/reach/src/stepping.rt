@@ -4,7 +4,8 @@ ghost use Prim.Native.Nat.{ℕ, _+_, _-_, _*_, _^_, _<_, min};
 ghost use lib.ListN.{getD};
 ghost use Rattle.std.specs.declared.option.Option.the-variants.{Some};
 ghost use Rattle.mdp.specs.Values.{entry, ValueLaws};
-ghost use Rattle.reach.specs.Reach.{farNumber, farPlace, farWords, Marks, Begun, Reached, Stepped, stepped, Answered};
+ghost use Rattle.reach.specs.Reach.{farNumber, farPlace, farWords, Begun, Stepped, Answered};
+ghost use Rattle.reach.specs.Working.{Marks, nextValue, Reached};
 use crate::reach::Reach;
 use crate::reach::TooFar;
 use mdp::Extreme;
@@ -51,7 +52,7 @@ fn next_value<S: Source>(
     values: &[u64; 256],
     power: u64,
 ) -> u64
-    ensures { λ r. ⌜ r ≡ stepped extreme (S·Source .meaning (now (source .entry))) power (entry (now (values .entry))) s ⌝ }
+    ensures { λ r. ⌜ r ≡ nextValue extreme (S·Source .meaning (now (source .entry))) power (entry (now (values .entry))) s ⌝ }
 {
     if source.is_goal(s) {
         return power;
@@ -66,7 +67,7 @@ fn next_values<S: Source>(
     values: &[u64; 256],
     power: u64,
 ) -> [u64; 256]
-    ensures { λ r. ⌜ ((s : ℕ) → s < 256 → getD r s 0 ≡ stepped extreme (S·Source .meaning (now (source .entry))) power (entry (now (values .entry))) s) ⌝ }
+    ensures { λ r. ⌜ ((s : ℕ) → s < 256 → getD r s 0 ≡ nextValue extreme (S·Source .meaning (now (source .entry))) power (entry (now (values .entry))) s) ⌝ }
 {
     let mut next = zeros();
     for s in 0..source.states().min(256) {

@@ -6,5 +6,4 @@ pub use request::BadLine;
 pub use request::BadLineDebug;
 pub use request::BadLineDisplay;
 pub use request::Request;
-pub use request::RequestDebug;
 pub use request::RequestDisplay;

@@ -3,7 +3,7 @@ ghost use Rattle.std.specs.declared.option.Option.the-variants.{Some};
 ghost use Rattle.requests.specs.Words.{inWords, wanted};
 use std::fmt;
 
-#[derive(Clone, Copy, Debug)]
+#[derive(Clone, Copy)]
 pub struct Request {
     pub events: u32,
     pub resends: u32,

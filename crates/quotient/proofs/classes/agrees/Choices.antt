@@ -1,5 +1,5 @@
 use Rattle.mdp.specs.Values.{entry}
-use Rattle.quotient.specs.Quotient.{Agrees}
+use Rattle.quotient.specs.Classes.{Agrees}
 use Rattle.quotient.proofs.classes.agrees.Given as given
 
 abbrev pub Inv-loop-t : given.InvT-loop-t

@@ -1,6 +1,6 @@
 use Prim.Native.Nat.{ℕ, _<_}
 use Rattle.mdp.specs.Values.{entry}
-use Rattle.quotient.specs.Quotient.{Agrees}
+use Rattle.quotient.specs.Classes.{Agrees}
 use Rattle.quotient.proofs.classes.all_agree.Given as given
 
 abbrev pub Inv-loop-s : given.InvT-loop-s

@@ -1,7 +1,7 @@
 use Prim.Native.Nat.{ℕ, _<_}
 use lib.ListN.{length}
 use Rattle.mdp.specs.Values.{entry}
-use Rattle.quotient.specs.Quotient.{Occurs}
+use Rattle.quotient.specs.Classes.{Occurs}
 use Rattle.quotient.proofs.classes.all_occur.Given as given
 
 abbrev pub Inv-loop-class : given.InvT-loop-class

@@ -1,7 +1,7 @@
 use Prim.Native.Nat.{_≤_}
 use lib.ListN.{length}
 use Rattle.mdp.specs.Values.{entry}
-use Rattle.quotient.specs.Quotient.{Lawful}
+use Rattle.quotient.specs.Classes.{Lawful}
 use Rattle.quotient.proofs.Lawfulness.{lawful-copy}
 use Rattle.quotient.proofs.Quotients.{quotient-sound, quotient-matched}
 use Rattle.quotient.proofs.classes.divide.Needs as need

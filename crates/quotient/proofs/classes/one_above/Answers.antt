@@ -2,7 +2,7 @@ use mathlib.Core.Path.{subst, sym}
 use Prim.Native.Nat.{_+_}
 use native.Mathlib.Omega.{arith}
 use Rattle.mdp.specs.Values.{entry}
-use Rattle.quotient.specs.Quotient.{OneAbove}
+use Rattle.quotient.specs.Working.{OneAbove}
 use Rattle.quotient.proofs.Lawfulness.{above-more, above-all}
 use Rattle.quotient.proofs.classes.one_above.Needs as need
 

@@ -1,5 +1,5 @@
 use Rattle.mdp.specs.Values.{entry}
-use Rattle.quotient.specs.Quotient.{OneAbove}
+use Rattle.quotient.specs.Working.{OneAbove}
 use Rattle.quotient.proofs.classes.one_above.Given as given
 
 abbrev pub Inv-loop-class : given.InvT-loop-class

@@ -3,7 +3,7 @@ use mathlib.Core.Logic.{inl, inr}
 use native.Mathlib.Omega.{arith}
 use Rattle.std.proofs.shelf.Tests.{cases-lt}
 use Rattle.mdp.specs.Values.{entry}
-use Rattle.reach.proofs.OneStep.{stepped-outside}
+use Rattle.reach.proofs.OneStep.{next-outside}
 use Rattle.reach.proofs.stepping.next_values.Needs as need
 
 pub returns : need.returns
@@ -12,6 +12,6 @@ returns g c = λ s l.
       | inl r ↦ c .loop-s .inv .1 s r
       | inr r ↦
           c .loop-s .inv .2 s r
-          ∙ sym (stepped-outside (c .args .extreme) (g .S·Source .meaning (c .args .source .now)) (g .S·Source·met .bounded (c .args .source .now))
+          ∙ sym (next-outside (c .args .extreme) (g .S·Source .meaning (c .args .source .now)) (g .S·Source·met .bounded (c .args .source .now))
           (c .args .power) (entry (c .args .values .now)) s (omega arith))
     ]
