@@ -15,6 +15,7 @@ use rows::Row;
 use sink::SinkSource;
 use std::io;
 
+// The values of a source that was inspected and found sound always make a row.
 fn print_row(rt: &impl Print, n: u32, reach: &Reach) -> io::Result<()> {
     let Some(row) = Row::of(reach) else {
         return println!(rt, "{n:>4} no chances");

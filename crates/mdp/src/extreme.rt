@@ -1,7 +1,8 @@
+// For whom the choices are made: the least chance, or the largest.
 ghost use mathlib.Core.Path.{_≡_};
 ghost use Rattle.mdp.specs.Sums.{better};
 
-// The choices are made for the least or for the largest chance.
+// One definition and one function serve both: whoever chooses takes the least offer, or the largest.
 #[derive(Clone, Copy)]
 pub enum Extreme {
     Min,

@@ -25,7 +25,7 @@ pub fn weighted_sum<S: Source>(source: &S, s: u32, c: u32, values: &[u64; 256]) 
     sum_to(source, s, c, values, source.states().min(256))
 }
 
-// The best over the first `n` choices, which are all.
+// The best over the first `n` choices.
 fn best_to<S: Source>(extreme: Extreme, source: &S, s: u32, values: &[u64; 256], n: u32) -> u128
     ensures { λ r. ⌜ r ≡ best extreme n (expect (S·Source .meaning (now (source .entry))) (entry (now (values .entry))) s) ⌝ }
 {

@@ -1,3 +1,4 @@
+// What a row of the table holds.
 use decimals::Decimal;
 
 // The least and the largest value and the whole that both are shares of; and the shares as decimals, rounded to the safe side.
