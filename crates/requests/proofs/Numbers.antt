@@ -1,9 +1,10 @@
 -- Numbers that digits write.
-use mathlib.Core.Path.{_≡_, refl, sym, subst}
-use mathlib.Core.List.{List, [], _∷_}
-use Prim.Native.Nat.{ℕ, zero, suc, _-_, _≤_}
+use mathlib.Core.Path.{_≡_, refl, sym, _∙_, ap, subst}
+use mathlib.Core.List.{List, [], _∷_, _++_, append-assoc}
+use Prim.Native.Nat.{ℕ, zero, suc, _+_, _-_, _≤_, _<_}
 use native.Mathlib.Omega.{arith}
-use lib.ListN.{take, drop}
+use lib.ListN.{length, getD, set, take, drop}
+use Rattle.std.proofs.shelf.Lists.{take-more-set, drop-more}
 use Rattle.std.specs.Iters.{folded}
 use Rattle.requests.specs.Line.{appended, valueOf, behind, Begins, Numbers}
 
@@ -21,9 +22,30 @@ value-split (suc k) n (d ∷ ds) = value-split k (appended n d) ds
 pub value-take : (k : ℕ) (ds : List ℕ) → valueOf (take k ds) ≤ valueOf ds
 value-take k ds = rw (value-split k 0 ds) (value-grows (valueOf (take k ds)) (drop k ds))
 
--- the numbers behind the first one, and one number more in front
-pub numbers-behind : (text rest : List ℕ) (n : ℕ) (ns : List ℕ) → rest ≡ behind text → Numbers text (n ∷ ns) → Numbers rest ns
-numbers-behind text rest n ns e says = subst (λ t. Numbers t ns) (sym e) (says .1)
+-- a number more was read: what stands behind it, the line says after it
+pub numbers-more :
+    (line rest numbers : List ℕ) (i n : ℕ) → i < length numbers → Begins rest n
+    → ((ns : List ℕ) → Numbers rest ns → Numbers line (take i numbers ++ ns))
+    → (ns : List ℕ) → Numbers (behind rest) ns → Numbers line (take (i + 1) (set numbers i n) ++ ns)
+numbers-more line rest numbers i n l first says ns more =
+    let same : take (i + 1) (set numbers i n) ++ ns ≡ take i numbers ++ (n ∷ ns) =
+    ap (λ xs. xs ++ ns) (take-more-set numbers i n l) ∙ append-assoc (take i numbers) (n ∷ []) ns in
+    subst (λ xs. Numbers line xs) (sym same) (says (n ∷ ns) (first, more))
 
-pub numbers-more : (text rest : List ℕ) (n : ℕ) (ns : List ℕ) → Begins text n → rest ≡ behind text → Numbers rest ns → Numbers text (n ∷ ns)
-numbers-more text rest n ns first e says = (first, subst (λ t. Numbers t ns) e says)
+-- the first of the numbers that are left, and the others
+pub numbers-left :
+    (rest ns : List ℕ) (i : ℕ) → i < length ns → Numbers rest (drop i ns)
+    → Begins rest (getD ns i 0) × Numbers (behind rest) (drop (i + 1) ns)
+numbers-left rest ns i l says = subst (λ xs. Numbers rest xs) (drop-more ns i 0 l) says
+
+-- a list of six, number by number
+pub six-listed :
+    (xs : List ℕ) → length xs ≡ 6
+    → take 6 xs ++ [] ≡ getD xs 0 0 ∷ getD xs 1 0 ∷ getD xs 2 0 ∷ getD xs 3 0 ∷ getD xs 4 0 ∷ getD xs 5 0 ∷ []
+six-listed [] e = absurd (let z : ⊥ = omega arith in z)
+six-listed (a ∷ []) e = absurd (let z : ⊥ = omega arith in z)
+six-listed (a ∷ b ∷ []) e = absurd (let z : ⊥ = omega arith in z)
+six-listed (a ∷ b ∷ c ∷ []) e = absurd (let z : ⊥ = omega arith in z)
+six-listed (a ∷ b ∷ c ∷ d ∷ []) e = absurd (let z : ⊥ = omega arith in z)
+six-listed (a ∷ b ∷ c ∷ d ∷ f ∷ []) e = absurd (let z : ⊥ = omega arith in z)
+six-listed (a ∷ b ∷ c ∷ d ∷ f ∷ g ∷ xs) e = refl

@@ -2,7 +2,7 @@
 ghost use mathlib.Core.List.{[], _∷_};
 ghost use mathlib.Core.Path.{_≡_};
 ghost use Prim.Native.Nat.{ℕ, _^_, _<_, _≤_};
-ghost use lib.ListN.{take, drop};
+ghost use lib.ListN.{getD, take, drop};
 ghost use Rattle.std.specs.Options.{Cases};
 ghost use Rattle.std.specs.Results.{Cases as Outcome};
 ghost use Rattle.std.specs.shelf.Lists.{leading};
@@ -79,20 +79,21 @@ fn number(text: &[u8]) -> Result<(u32, &[u8]), BadLine>
     }
 }
 
-// All the numbers of a line that has six.
-fn six_numbers(line: &[u8]) -> Result<(u32, u32, u32, u32, u32, u32), BadLine>
-    ensures { λ r. ⌜ Outcome r (λ n. Numbers (now (line .entry)) (n .0 ∷ n .1 ∷ n .2 ∷ n .3 ∷ n .4 ∷ n .5 ∷ [])) (λ _. (q : Request) → Numbers (now (line .entry)) (listed q) → ⊥) ⌝ }
+// The numbers of a line that has six of them, and no more.
+fn six_numbers(line: &[u8]) -> Result<[u32; 6], BadLine>
+    ensures { λ r. ⌜ Outcome r (λ n. Numbers (now (line .entry)) (getD n 0 0 ∷ getD n 1 0 ∷ getD n 2 0 ∷ getD n 3 0 ∷ getD n 4 0 ∷ getD n 5 0 ∷ [])) (λ _. (q : Request) → Numbers (now (line .entry)) (listed q) → ⊥) ⌝ }
 {
-    let (first, rest) = number(line)?;
-    let (second, rest) = number(rest)?;
-    let (third, rest) = number(rest)?;
-    let (fourth, rest) = number(rest)?;
-    let (fifth, rest) = number(rest)?;
-    let (sixth, rest) = number(rest)?;
+    let mut numbers = [0; 6];
+    let mut rest = line;
+    for i in 0..6 {
+        let (n, behind) = number(rest)?;
+        numbers[i] = n;
+        rest = behind;
+    }
     if Kind::Blank.run(rest) < rest.len() {
         return Err(BadLine);
     }
-    Ok((first, second, third, fourth, fifth, sixth))
+    Ok(numbers)
 }
 
 impl Request {
@@ -100,14 +101,14 @@ impl Request {
     pub fn parse(line: &[u8]) -> Result<Request, BadLine>
         ensures { λ r. ⌜ Parsed (now (line .entry)) r ⌝ }
     {
-        let (events, resends, denominator, request, receipt, steps) = six_numbers(line)?;
+        let numbers = six_numbers(line)?;
         Ok(Request {
-            events,
-            resends,
-            denominator,
-            request,
-            receipt,
-            steps,
+            events: numbers[0],
+            resends: numbers[1],
+            denominator: numbers[2],
+            request: numbers[3],
+            receipt: numbers[4],
+            steps: numbers[5],
         })
     }
 }
