@@ -38,7 +38,8 @@ pub fn answer(input: &[u8]) -> String {
     );
     match graph(e, m, d, a, b) {
         None => out.push_str(
-            "refused by 6 at place 0: the number of states is not 1 to 256, or the denominator not 1 to 65535 (opening of source K)\n",
+            "refused by 6 at place 0: the number of states is not 1 to 256, or the denominator not 1 to 65535 (opening of source K)\n\
+             A sheet has states only within its limits: E 1 to 255, M up to 255, D 1 to 65535, a + b up to D, 2 x E x (M + 1) + 3 up to 256.\n",
         ),
         Some(model) => table(&mut out, &model, n),
     }

@@ -1,5 +1,6 @@
 // Prints the exact least and largest chance of a double count, for the retry sheet that a line of standard input asks for.
 use decimals::DecimalDisplay;
+use inspection::Unsound;
 use inspection::UnsoundDisplay;
 use inspection::inspect;
 use mdp::Source;
@@ -53,6 +54,15 @@ fn print_table(rt: &impl Print, source: &impl Source, steps: u32) -> io::Result<
     Ok(())
 }
 
+// A sheet within its limits is sound, so whatever is refused is out of them.
+fn print_limits(rt: &impl Print, unsound: &Unsound) -> io::Result<()> {
+    println!(rt, "{unsound}")?;
+    println!(
+        rt,
+        "A sheet has states only within its limits: E 1 to 255, M up to 255, D 1 to 65535, a + b up to D, 2 x E x (M + 1) + 3 up to 256."
+    )
+}
+
 fn answer(rt: &impl Print, request: &Request) -> io::Result<()> {
     println!(rt, "{request}")?;
     let sheet = Sheet::new(
@@ -65,7 +75,7 @@ fn answer(rt: &impl Print, request: &Request) -> io::Result<()> {
     let source = sheet.under_sink();
     match inspect(&source) {
         Ok(()) => print_table(rt, &source, request.steps),
-        Err(unsound) => println!(rt, "{unsound}"),
+        Err(unsound) => print_limits(rt, &unsound),
     }
 }
 

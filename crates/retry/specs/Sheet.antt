@@ -21,7 +21,7 @@ numberOf x Done = firstEnd x
 numberOf x GaveUp = firstEnd x + 1
 numberOf x CountedTwice = firstEnd x + 2
 
--- the stage of a number below firstEnd x + 3
+-- the stage that a number below firstEnd x + 3 stands for; Numbered says that this undoes numberOf
 abbrev pub stageOf : Sheet → ℕ → Stage
 stageOf x s =
     cond (ltb s (firstEnd x)) (Sending (s / 2 / (x .resends + 1)) (s / 2 % (x .resends + 1)) (eqb (s % 2) 1))
