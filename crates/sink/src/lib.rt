@@ -18,8 +18,15 @@ impl<S: Source> Sink<S> {
         ensures below { λ r. ⌜ r .below ≡ below ⌝ }
         ensures sound { λ r. ⌜ (SoundOnceSinked (S·Source .meaning below) → Sound (sinked (S·Source .meaning below))) ⌝ }
     {
-        Sink { below }
+        let sink = Sink { below };
+        sink.is_sound_once_sinked();
+        sink
     }
+
+    // It does nothing: to call it is to cite what its contract states.
+    fn is_sound_once_sinked(&self)
+        ensures { λ _. ⌜ (SoundOnceSinked (S·Source .meaning (now (self .entry) .below)) → Sound (sinked (S·Source .meaning (now (self .entry) .below)))) ⌝ }
+    {}
 }
 
 pub impl<S: Source> Source for Sink<S> as SinkSource {
