@@ -10,13 +10,15 @@ use Rattle.std.specs.Written.{decimal}
 abbrev pub NoShare : ℕ → ℕ → Type 0
 NoShare part whole = (whole ≡ 0) ⊎ (whole < part)
 
--- the largest number of millionths that is not above the share
+-- the part is a share of the whole, and this the largest number of millionths that is not above it
 pub record NotAbove (part whole millionths : ℕ) : Type 0 where
+  pub share : part ≤ whole
   pub safe : millionths * whole ≤ part * 1000000
   pub next : part * 1000000 < (millionths + 1) * whole
 
--- the least number of millionths that is not below the share
+-- the part is a share of the whole, and this the least number of millionths that is not below it
 pub record NotBelow (part whole millionths : ℕ) : Type 0 where
+  pub share : part ≤ whole
   pub safe : part * 1000000 ≤ millionths * whole
   pub next : millionths * whole < part * 1000000 + whole
 

@@ -55,4 +55,4 @@ FirstFault m (Some (Weights s)) = (OutOfLimits m → ⊥) × Never (MissesChoice
 -- the answer for a source of this letter that means m
 abbrev pub Inspected : Model → ℕ → Result Unit Unsound → Type 0
 Inspected m letter (Ok _) = Sound m
-Inspected m letter (Err u) = (u .letter ≡ letter) × FirstFault m (Some (u .fault))
+Inspected m letter (Err u) = (u .letter ≡ letter) × (Sound m → ⊥) × FirstFault m (Some (u .fault))

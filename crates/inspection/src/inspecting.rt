@@ -2,6 +2,8 @@
 ghost use mathlib.Core.Path.{_≡_};
 ghost use Prim.Native.Nat.{ℕ, _<_, _≤_};
 ghost use Rattle.std.specs.Orderings.{Decides};
+ghost use Rattle.std.specs.declared.option.Option.the-variants.{Some};
+ghost use Rattle.mdp.specs.Sound.{Sound};
 ghost use Rattle.mdp.specs.Sums.{sum};
 ghost use Rattle.mdp.specs.Values.{entry};
 ghost use Rattle.inspection.specs.Inspection.{Lowest, MissesChoices, MissesWeights, FirstFault, Inspected};
@@ -80,15 +82,24 @@ fn first_fault<S: Source>(source: &S) -> Option<Fault>
     }
 }
 
+// It does nothing: to call it is to cite that a model with a fault is not sound.
+fn rules_out_soundness<S: Source>(source: &S, fault: Fault)
+    requires { ⌜ FirstFault (S·Source .meaning (now source)) (Some fault) ⌝ }
+    ensures { λ _. ⌜ (Sound (S·Source .meaning (now (source .entry))) → ⊥) ⌝ }
+{}
+
 // Whether the source's model is sound; if not, the fault of the smallest number that it has anywhere, at the lowest state.
 pub fn inspect<S: Source>(source: &S) -> Result<(), Unsound>
     ensures { λ r. ⌜ Inspected (S·Source .meaning (now (source .entry))) (S·Source .mark) r ⌝ }
 {
     match first_fault(source) {
         None => Ok(()),
-        Some(fault) => Err(Unsound {
-            letter: S::own_letter(),
-            fault,
-        }),
+        Some(fault) => {
+            rules_out_soundness(source, fault);
+            Err(Unsound {
+                letter: S::own_letter(),
+                fault,
+            })
+        }
     }
 }

@@ -2,7 +2,7 @@
 use mathlib.Core.Path.{_≡_}
 use mathlib.Core.List.{List}
 use mathlib.Core.Logic.{_⊎_}
-use Prim.Native.Nat.{ℕ, _+_, _*_, _^_, _<_}
+use Prim.Native.Nat.{ℕ, _+_, _*_, _^_, _≤_, _<_}
 use lib.Chars.{codes}
 use Rattle.std.specs.declared.result.Result.{Result}
 use Rattle.std.specs.declared.result.Result.the-variants.{Ok, Err}
@@ -26,6 +26,10 @@ farWords x = codes "refused by 18 at place 0: more than 1000 steps, or a power o
 abbrev pub OutOfRange : ℕ → ℕ → Type 0
 OutOfRange steps power = (1000 < steps) ⊎ (2 ^ 62 < power)
 
+-- neither
+abbrev pub InRange : ℕ → ℕ → Type 0
+InRange steps power = (steps ≤ 1000) × (power ≤ 2 ^ 62)
+
 -- v holds the values of every state for k steps
 pub record Reaches (m : Model) (k : ℕ) (v : Reach) : Type 0 where
   pub steps : v .steps ≡ k
@@ -41,6 +45,7 @@ pub record Begun (m : Model) (v : Reach) : Type 0 where
 
 -- one step more, from old to new
 pub record Advanced (m : Model) (old new : Reach) : Type 0 where
+  pub range : InRange (new .steps) (new .power)
   pub steps : new .steps ≡ old .steps + 1
   pub power : new .power ≡ old .power * m .denominator
   pub values : (k : ℕ) → Sound m → Reaches m k old → Reaches m (k + 1) new
@@ -52,5 +57,6 @@ Stepped m old (Err _) new = OutOfRange (old .steps + 1) (old .power * m .denomin
 
 -- the answer to: what are the values of s for n steps? The least, the largest and the power, or too far.
 abbrev pub Answered : Model → ℕ → ℕ → Result (ℕ × ℕ × ℕ) TooFar → Type 0
-Answered m s n (Ok v) = (v .2 ≡ m .denominator ^ n) × (Sound m → (v .0 ≡ Least m n s) × (v .1 ≡ Most m n s))
+Answered m s n (Ok v) =
+    InRange n (m .denominator ^ n) × (v .2 ≡ m .denominator ^ n) × (Sound m → (v .0 ≡ Least m n s) × (v .1 ≡ Most m n s))
 Answered m s n (Err _) = OutOfRange n (m .denominator ^ n)

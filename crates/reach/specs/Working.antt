@@ -12,7 +12,7 @@ use Rattle.mdp.specs.Model.{Model}
 use Rattle.mdp.specs.Sums.{best}
 use Rattle.mdp.specs.Sound.{Sound}
 use Rattle.mdp.specs.Values.{entry, expect, Most, Least}
-use Rattle.reach.specs.Reach.{OutOfRange, Reaches}
+use Rattle.reach.specs.Reach.{OutOfRange, InRange, Reaches}
 
 -- the list has 1 at goals and 0 elsewhere: the values for no steps, as shares of 1
 pub record Marks (m : Model) (xs : List ℕ) : Type 0 where
@@ -26,5 +26,5 @@ nextValue e m power v s = cond (m .goal s) power (min (best e (m .choices s) (ex
 
 -- the values of all states for n steps, or too far
 abbrev pub Reached : Model → ℕ → Result Reach TooFar → Type 0
-Reached m n (Ok v) = (v .power ≡ m .denominator ^ n) × (Sound m → Reaches m n v)
+Reached m n (Ok v) = InRange n (m .denominator ^ n) × (v .power ≡ m .denominator ^ n) × (Sound m → Reaches m n v)
 Reached m n (Err _) = OutOfRange n (m .denominator ^ n)

@@ -50,8 +50,9 @@ returns g c =
     let m = g .S·Source .meaning (c .args .source .now) in
     let n = c .args .n in
     let all : c .loop-k .-k ≡ n = omega arith in
+    let whole : c .loop-k .reach .power ≡ m .denominator ^ n = c .loop-k .inv .1 ∙ ap (λ i. m .denominator ^ i) all in
     let held : Sound m → Reaches m n (c .loop-k .reach) = λ sound. subst (λ i. Reaches m i (c .loop-k .reach)) all (c .loop-k .inv .2 sound) in
     record {
-      values = (c .loop-k .inv .1 ∙ ap (λ i. m .denominator ^ i) all, held);
+      values = ((omega arith, omega (arith, whole, c .loop-k .reach .small)), whole, held);
       laws = value-laws m (g .S·Source·met .bounded (c .args .source .now)) n;
     }

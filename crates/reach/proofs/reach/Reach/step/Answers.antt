@@ -12,6 +12,7 @@ returns g c =
     let b = g .S·Source·met .bounded (c .args .source .now) in
     let old = c .args .self .now in
     record {
+      range = (omega arith, omega arith);
       steps = refl;
       power = ap (λ d. old .power * d) (c .denominator .ensures);
       values = λ k sound held.
