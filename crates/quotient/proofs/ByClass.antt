@@ -27,7 +27,7 @@ pub into-none : (m : Model) (cls : ℕ → ℕ) (s d b : ℕ) → intoTo m cls s
 unfolding intoTo
 into-none m cls s d b = sum-none _
 
-pub into-more :
+into-more :
     (m : Model) (cls : ℕ → ℕ) (s d b t : ℕ)
     → intoTo m cls s d b (t + 1) ≡ intoTo m cls s d b t + cond (eqb (cls t) b) (m .weight s d t) 0
 unfolding intoTo
@@ -37,7 +37,7 @@ pub goal-none : (m : Model) (cls : ℕ → ℕ) (a : ℕ) → goalTo m cls a 0 �
 unfolding goalTo
 goal-none m cls a = refl
 
-pub goal-more :
+goal-more :
     (m : Model) (cls : ℕ → ℕ) (a n : ℕ) → goalTo m cls a (n + 1) ≡ (goalTo m cls a n || (eqb (cls n) a && m .goal n))
 unfolding goalTo
 goal-more m cls a n = rw add-one refl

@@ -18,7 +18,7 @@ use Rattle.quotient.specs.Working.{Owner}
 use Rattle.quotient.proofs.ByClass.{before-none, before-more, goal-in, no-goal, sum-by-class, le-class, few-classes}
 
 -- past its classes, choices and targets a quotient has nothing, whatever its list
-pub quotient-bounded : (m : Model) (cls : ℕ → ℕ) (count : ℕ) → Bounded (quotient m cls count)
+quotient-bounded : (m : Model) (cls : ℕ → ℕ) (count : ℕ) → Bounded (quotient m cls count)
 quotient-bounded m cls count =
     record {
       goals = λ a l. and-left _ _ (le-ltb a count l);
@@ -32,7 +32,7 @@ unfolding before
 before-grows m cls a s t l = sum-grows s t _ l
 
 -- the choices of a state come before those of later classmates
-pub before-later :
+before-later :
     (m : Model) (cls : ℕ → ℕ) (a s t : ℕ) → cls s ≡ a → s < t → before m cls a s + m .choices s ≤ before m cls a t
 before-later m cls a s t e l =
     omega (
@@ -58,7 +58,7 @@ one-owner m cls a c s t e lo hi ne o =
     ]
 
 -- the weights of a choice of a class are those of the state that has it
-pub weight-of-owner :
+weight-of-owner :
     (m : Model) (cls : ℕ → ℕ) (a c b s d : ℕ) → s < m .states → cls s ≡ a → before m cls a s + d ≡ c → d < m .choices s
     → weightOf m cls a c b ≡ into m cls s d b
 unfolding weightOf

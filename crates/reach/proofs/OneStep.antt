@@ -27,7 +27,7 @@ next-outside e m b power v s l =
     ∙ rw (b .rows s l, best-none e (expect m v s)) refl
 
 -- for a sound model a step from the values of k steps gives those of one step more, while the power is in range
-pub next-value-is :
+next-value-is :
     (e : Extreme) (m : Model) → Bounded m → Sound m → (v : ℕ → ℕ) (k s : ℕ) → ((t : ℕ) → v t ≡ Value e m k t)
     → m .denominator ^ suc k ≤ 2 ^ 62
     → nextValue e m (m .denominator ^ suc k) v s ≡ Value e m (suc k) s

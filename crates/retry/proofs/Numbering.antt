@@ -24,7 +24,7 @@ bit-below : (f : Bool) → cond f 1 0 < 2
 bit-below true = omega arith
 bit-below false = omega arith
 
-pub sending-below :
+sending-below :
     (x : Sheet) (i j : ℕ) (f : Bool) → i < x .events → j ≤ x .resends → numberOf x (Sending i j f) < firstEnd x
 sending-below x i j f h k = omega (arith, place-below (x .events) (x .resends) i j h k, bit-below f)
 
