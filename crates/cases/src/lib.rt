@@ -1,4 +1,6 @@
 // Tests of the library crates.
+#![tactic(auto)]
+
 #[cfg(test)]
 mod inspections;
 #[cfg(test)]

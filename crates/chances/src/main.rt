@@ -1,4 +1,6 @@
 // Prints the exact least and largest chance of a double count, for the retry sheet that a line of standard input asks for.
+#![tactic(auto)]
+
 use inspection::{Unsound, inspect};
 use mdp::Source;
 use reach::Reach;

@@ -1,4 +1,6 @@
 // Shares of a whole as decimals with six places.
+#![tactic(auto)]
+
 ghost use Rattle.std.specs.Prelude.{◌+◌, ◌*◌, ◌<◌, ◌≤◌, Some, MatchOption};
 ghost use Rattle.decimals.specs.Decimal.{NoShare, NotAbove, NotBelow, written};
 

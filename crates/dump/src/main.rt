@@ -1,4 +1,6 @@
 // Prints a model file or a hand-in record by record, in words, and then whether it was read whole: why was my file refused?
+#![tactic(auto)]
+
 use reader::{ReadFault, Reader};
 use records::{Mark, Record, branch_at, mark_at, portion_at};
 use std::io;

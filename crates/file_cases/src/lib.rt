@@ -1,4 +1,6 @@
 // Examples of files: what reads, and what is refused where.
+#![tactic(auto)]
+
 #[cfg(test)]
 mod filled_tables;
 #[cfg(test)]

@@ -1,4 +1,6 @@
 // Filling: the rows of a table, out of a model file.
+#![tactic(auto)]
+
 mod counts;
 mod fault;
 mod filling;

@@ -1,4 +1,6 @@
 // What hand-ins and model files are: which record may follow where.
+#![tactic(auto)]
+
 mod order;
 mod place;
 mod ranges;

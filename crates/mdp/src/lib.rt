@@ -1,4 +1,6 @@
 // Markov decision processes with whole-number weights: what a model is, the sources that answer for one, and sums over a source.
+#![tactic(auto)]
+
 mod extreme;
 mod source;
 mod worth;

@@ -1,4 +1,6 @@
 // The quotient layer: the states of one class become one state.
+#![tactic(auto)]
+
 mod classes;
 mod layer;
 

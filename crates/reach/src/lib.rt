@@ -1,4 +1,6 @@
 // The exact chances of reaching a goal within a number of steps.
+#![tactic(auto)]
+
 mod reach;
 mod stepping;
 

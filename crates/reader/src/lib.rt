@@ -1,4 +1,6 @@
 // Reading files: hand-ins and model files, record by record, exactly or with the first fault.
+#![tactic(auto)]
+
 mod fault;
 mod reading;
 

@@ -1,4 +1,6 @@
 // The records of a file: what each says, the bytes that it is written as, and one record out of a caller's bytes.
+#![tactic(auto)]
+
 mod content;
 mod decoding;
 mod entries;

@@ -1,4 +1,6 @@
 // The retry sheet: events are sent one after the other, each with resends, and a request or a receipt may be lost on the way.
+#![tactic(auto)]
+
 mod sheet;
 mod stage;
 

@@ -1,4 +1,6 @@
 // One row of a table of chances: what holds of state 0 within a number of steps.
+#![tactic(auto)]
+
 ghost use Rattle.std.specs.Prelude.{ℕ};
 ghost use Rattle.mdp.specs.Model.{Model, Bounded};
 ghost use Rattle.mdp.specs.Sound.{Sound};

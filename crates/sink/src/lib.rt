@@ -1,4 +1,6 @@
 // The sink layer: a state where nothing happens any more stays put.
+#![tactic(auto)]
+
 ghost use Rattle.std.specs.Prelude.{◌≡◌};
 ghost use Rattle.mdp.specs.Sound.{Sound};
 ghost use Rattle.sink.specs.Sink.{sinked, SoundOnceSinked};

@@ -1,4 +1,6 @@
 // The table: a model that rests on rows, one for each state, choice and branch.
+#![tactic(auto)]
+
 mod lent;
 mod rows;
 mod search;

@@ -1,4 +1,6 @@
 // Writing hand-ins, record by record, into a caller's buffer.
+#![tactic(auto)]
+
 mod fault;
 mod rewriting;
 mod writing;

@@ -15,10 +15,10 @@ loop-c-preserved g c =
     let f = expect (g.S.Source.meaning c.args.source.now) (entry c.args.values.now) c.args.s in
     let i = c.loop-c.c in
     elim c.if-c-eq0.branch [
-      | then-c-eq0 w ↦ w.best-is ∙ c.weighted-sum-offer.ensures ∙ sym (best_first e i f w.if-c-eq0.true)
+      | then-c-eq0 w ↦ w.best-is ∙ c.weighted_sum-offer.ensures ∙ sym (best_first e i f w.if-c-eq0.true)
       | else-c-eq0 w ↦
           w.best-is
           ∙ w.better-best.ensures
-          ∙ ap₂ (better e) c.loop-c.invariant c.weighted-sum-offer.ensures
+          ∙ ap₂ (better e) c.loop-c.invariant c.weighted_sum-offer.ensures
           ∙ sym (best_more e i f (omega (arith, w.if-c-eq0.false)))
     ]
