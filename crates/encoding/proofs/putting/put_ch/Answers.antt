@@ -14,12 +14,12 @@ returns c =
     let es = c.args.entries.now in
     let count = length es / 4 in
     let head = 67 ∷ 72 ∷ two count in
-    let small : (j : ℕ) → get_or es j 0 < 256 = λ j. (c.type-inv.entries j).fits in
-    let first : c.put-bytes.new.buffer ≡ placed buffer at head =
-    c.put-bytes.ensures ∙ ap (λ k. placed buffer at (67 ∷ 72 ∷ get_or k 0 0 ∷ get_or k 1 0 ∷ [])) c.to-be-bytes.ensures in
+    let small : (j : ℕ) → get_or es j 0 < 256 = λ j. (c.type_inv.entries j).fits in
+    let first : c.put_bytes.new.buffer ≡ placed buffer at head =
+    c.put_bytes.ensures ∙ ap (λ k. placed buffer at (67 ∷ 72 ∷ get_or k 0 0 ∷ get_or k 1 0 ∷ [])) c.to_be_bytes.ensures in
     record {
       value =
-          c.put-bytes-2.ensures ∙ ap (λ b. placed b (at + 4) es) first ∙ placed_twice buffer head es at (omega arith)
+          c.put_bytes-2.ensures ∙ ap (λ b. placed b (at + 4) es) first ∙ placed_twice buffer head es at (omega arith)
           ∙ ap (placed buffer at) (sym (ch_bytes es small c.requires.1.0));
       fit = (omega (arith, length-branches count es 0), branches_fit es small count 0);
     }

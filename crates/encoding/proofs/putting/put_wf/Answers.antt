@@ -14,15 +14,15 @@ returns c =
     let es = a.entries.now in
     let count = length es / 5 in
     let head = 87 ∷ 70 ∷ (two a.state ++ (a.high ∷ (two a.choice ++ (two a.matched ++ two count)))) in
-    let small : (j : ℕ) → get_or es j 0 < 256 = λ j. (c.type-inv.entries j).fits in
-    let s = c.to-be-bytes.ensures in
-    let d = c.to-be-bytes-2.ensures in
-    let m = c.to-be-bytes-3.ensures in
-    let k = c.to-be-bytes-4.ensures in
-    let first : c.put-bytes.new.buffer ≡ placed buffer a.at head = c.put-bytes.ensures ∙ rw (s, d, m, k) refl in
+    let small : (j : ℕ) → get_or es j 0 < 256 = λ j. (c.type_inv.entries j).fits in
+    let s = c.to_be_bytes.ensures in
+    let d = c.to_be_bytes-2.ensures in
+    let m = c.to_be_bytes-3.ensures in
+    let k = c.to_be_bytes-4.ensures in
+    let first : c.put_bytes.new.buffer ≡ placed buffer a.at head = c.put_bytes.ensures ∙ rw (s, d, m, k) refl in
     record {
       value =
-          c.put-bytes-2.ensures ∙ ap (λ b. placed b (a.at + 11) es) first ∙ placed_twice buffer head es a.at (omega arith)
+          c.put_bytes-2.ensures ∙ ap (λ b. placed b (a.at + 11) es) first ∙ placed_twice buffer head es a.at (omega arith)
           ∙ ap (placed buffer a.at) (sym (wf_bytes es small a.state a.high a.choice a.matched c.requires.1.0));
       fit = (search rules, search rules, search rules, search rules, omega (arith, length-portions count es 0), portions_fit es small count 0);
     }

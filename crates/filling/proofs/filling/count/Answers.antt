@@ -7,29 +7,29 @@ use Rattle.reader.proofs.Steps.{next_some}
 use Rattle.filling.proofs.Readings.{next_none, come_next, counts_next, next_fits, ends_at_fault, ends_with_file}
 use Rattle.filling.proofs.filling.count.Goals as goal
 
-pub returns-in-err-item : goal.returns-in-err-item
-returns-in-err-item c =
-    let p = err_from_is_err_and c.from-residual.result c.from-residual.ensures.1 in
+pub returns-in_err-item : goal.returns-in_err-item
+returns-in_err-item c =
+    let p = err_from_is_err_and c.from_residual.result c.from_residual.ensures.1 in
     let inv = c.loop-item.invariant in
-    let all = rest_of c.model-file-reader.result in
-    rw (p.1, p.2) (ends_at_fault c.args.bytes.now all c.model-file-reader.ensures.exact inv.0 (rest_of c.loop-item.reader) inv.1 _ _ c.in-err-item.ensures.0)
+    let all = rest_of c.model_file-reader.result in
+    rw (p.1, p.2) (ends_at_fault c.args.bytes.now all c.model_file-reader.ensures.exact inv.0 (rest_of c.loop-item.reader) inv.1 _ _ c.in_err-item.ensures.0)
 
 pub with-counts-requires : goal.with-counts-requires
 with-counts-requires c =
     let inv = c.loop-item.invariant in
-    let all = rest_of c.model-file-reader.result in
-    let step = next_some c.loop-item.reader c.next.new.self c.in-ok-item.field-0 (c.in-Some.field-0-0, c.in-Some.item) c.in-Some.is c.in-ok-item.ensures in
+    let all = rest_of c.model_file-reader.result in
+    let step = next_some c.loop-item.reader c.next.new.self c.in_ok-item.field-0 (c.in-Some.field-0-0, c.in-Some.item) c.in-Some.is c.in_ok-item.ensures in
     next_fits all inv.0 (rest_of c.loop-item.reader) inv.1 (content c.in-Some.item) (rest_of c.next.new.self) step
-    ModelFile c.args.bytes.now c.model-file-reader.ensures.exact.holds (omega arith) c.loop-item.counts inv.2
+    ModelFile c.args.bytes.now c.model_file-reader.ensures.exact.holds (omega arith) c.loop-item.counts inv.2
 
 pub loop-item-preserved : goal.loop-item-preserved
 loop-item-preserved c =
     let inv = c.loop-item.invariant in
-    let all = rest_of c.model-file-reader.result in
+    let all = rest_of c.model_file-reader.result in
     let rest = rest_of c.loop-item.reader in
     let r = content c.in-Some.item in
     let next = rest_of c.next.new.self in
-    let step = next_some c.loop-item.reader c.next.new.self c.in-ok-item.field-0 (c.in-Some.field-0-0, c.in-Some.item) c.in-Some.is c.in-ok-item.ensures in (
+    let step = next_some c.loop-item.reader c.next.new.self c.in_ok-item.field-0 (c.in-Some.field-0-0, c.in-Some.item) c.in-Some.is c.in_ok-item.ensures in (
       inv.0 ++ r ∷ [],
       come_next all inv.0 rest inv.1 r next step,
       c.with-counts.ensures ∙ counts_next all inv.0 rest inv.1 r next step c.loop-item.counts inv.2,
@@ -38,8 +38,8 @@ loop-item-preserved c =
 pub returns : goal.returns
 returns c =
     let inv = c.loop-item.invariant in
-    let all = rest_of c.model-file-reader.result in
+    let all = rest_of c.model_file-reader.result in
     let reader = c.next.new.self in
-    let end = next_none c.loop-item.reader reader c.in-ok-item.field-0 c.in-default.is c.in-ok-item.ensures in
-    ends_with_file c.args.bytes.now all c.model-file-reader.ensures.exact inv.0 (rest_of c.loop-item.reader) inv.1
+    let end = next_none c.loop-item.reader reader c.in_ok-item.field-0 c.in_default.is c.in_ok-item.ensures in
+    ends_with_file c.args.bytes.now all c.model_file-reader.ensures.exact inv.0 (rest_of c.loop-item.reader) inv.1
     reader.at end (omega arith) c.loop-item.counts inv.2

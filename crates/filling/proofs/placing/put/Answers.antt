@@ -10,4 +10,4 @@ returns-in-St c =
 pub returns-in-Ch : goal.returns-in-Ch
 returns-in-Ch c =
     choice_placed c.args.counts c.args.item (tables c.args.states.now c.args.choices.now c.args.branches.now) c.requires
-    c.in-Ch.entries c.put-branches.new.table c.in-Ch.is c.put-branches.ensures
+    c.in-Ch.entries c.put_branches.new.table c.in-Ch.is c.put_branches.ensures

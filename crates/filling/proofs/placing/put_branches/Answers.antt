@@ -25,4 +25,4 @@ loop-branch-preserved c =
 
 pub returns : goal.returns
 returns c =
-    laid_all c.args.table.now c.args.first (branches c.args.entries.now) c.loop-branch.i c.loop-branch.table c.loop-branch.invariant.1 c.in-default.ensures
+    laid_all c.args.table.now c.args.first (branches c.args.entries.now) c.loop-branch.i c.loop-branch.table c.loop-branch.invariant.1 c.in_default.ensures

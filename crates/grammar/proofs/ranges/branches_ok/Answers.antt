@@ -16,8 +16,8 @@ returns-then-branch-least c =
     (⊎_elim (λ h. branches_past bs c.args.n k m v b s h.1) (λ h. branches_zero bs c.args.n k m v b s h.2))
     c.then-branch-least.either
 
-pub overflow-add-i : goal.overflow-add-i
-overflow-add-i c =
+pub overflow_add-i : goal.overflow_add-i
+overflow_add-i c =
     let h = index_below (branches c.args.entries.now) c.loop-branch.i c.in-Some.branch c.in-Some.ensures in
     let l = length-branches (length c.args.entries.now / 4) c.args.entries.now 0 in
     search rules
@@ -34,4 +34,4 @@ loop-branch-preserved c =
     (omega arith) (omega arith) (omega arith)
 
 pub returns : goal.returns
-returns c = branches_end (branches c.args.entries.now) c.args.n c.loop-branch.i c.loop-branch.least c.loop-branch.invariant c.in-default.ensures
+returns c = branches_end (branches c.args.entries.now) c.args.n c.loop-branch.i c.loop-branch.least c.loop-branch.invariant c.in_default.ensures

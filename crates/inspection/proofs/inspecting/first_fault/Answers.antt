@@ -5,5 +5,5 @@ use Rattle.inspection.proofs.inspecting.first_fault.Goals as goal
 pub returns-in-None : goal.returns-in-None
 returns-in-None g c =
     sound_from (g.S.Source.meaning c.args.source.now) (omega arith) (omega arith) (omega arith) (omega arith)
-    c.in-default.ensures
+    c.in_default.ensures
     c.in-None.ensures

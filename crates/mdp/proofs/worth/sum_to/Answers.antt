@@ -5,8 +5,8 @@ use Rattle.mdp.proofs.worth.sum_to.Goals as goal
 pub loop-t-init : goal.loop-t-init
 loop-t-init g c = search (rules, expect_none)
 
-pub overflow-add-total : goal.overflow-add-total
-overflow-add-total g c = let p = product_fits c.weight.result (get_or c.args.values.now c.loop-t.t 0) (omega arith) (omega arith) in search rules
+pub overflow_add-total : goal.overflow_add-total
+overflow_add-total g c = let p = product_fits c.weight.result (get_or c.args.values.now c.loop-t.t 0) (omega arith) (omega arith) in search rules
 
 pub loop-t-preserved : goal.loop-t-preserved
 loop-t-preserved g c =

@@ -5,17 +5,17 @@ use Rattle.quotient.proofs.Lawfulness.{counted, uncounted}
 use Rattle.quotient.proofs.classes.count_classes.Goals as goal
 use Rattle.quotient.proofs.classes.count_classes.Goals.{else-all-occur-via-then-all-occur+else-all-agree, else-all-occur-via-else-all-occur}
 
-pub returns-then-all-agree : goal.returns-then-all-agree
-returns-then-all-agree g c =
-    counted (g.S.Source.meaning c.args.below.now) (entry c.args.classes.now) (length c.args.classes.now) c.states-n.result c.one-above-count.result
-    c.states-n.ensures (omega arith) (omega arith) (omega arith) c.one-above-count.ensures
-    (c.if-all-occur.ensures.0 refl) (c.if-all-agree.ensures.0 refl)
+pub returns-then-all_agree : goal.returns-then-all_agree
+returns-then-all_agree g c =
+    counted (g.S.Source.meaning c.args.below.now) (entry c.args.classes.now) (length c.args.classes.now) c.states-n.result c.one_above-count.result
+    c.states-n.ensures (omega arith) (omega arith) (omega arith) c.one_above-count.ensures
+    (c.if-all_occur.ensures.0 refl) (c.if-all_agree.ensures.0 refl)
 
-pub returns-else-all-occur : goal.returns-else-all-occur
-returns-else-all-occur g c =
-    uncounted (g.S.Source.meaning c.args.below.now) (entry c.args.classes.now) (length c.args.classes.now) c.states-n.result c.one-above-count.result
-    c.states-n.ensures (omega arith) c.one-above-count.ensures
-    (elim c.else-all-occur.branch [
-      | else-all-occur-via-then-all-occur+else-all-agree w ↦ inr (not_from_Decides _ w.all-agree.ensures w.if-all-agree.false)
-      | else-all-occur-via-else-all-occur w ↦ inl (not_from_Decides _ c.all-occur.ensures w.if-all-occur.false)
+pub returns-else-all_occur : goal.returns-else-all_occur
+returns-else-all_occur g c =
+    uncounted (g.S.Source.meaning c.args.below.now) (entry c.args.classes.now) (length c.args.classes.now) c.states-n.result c.one_above-count.result
+    c.states-n.ensures (omega arith) c.one_above-count.ensures
+    (elim c.else-all_occur.branch [
+      | else-all-occur-via-then-all-occur+else-all-agree w ↦ inr (not_from_Decides _ w.all_agree.ensures w.if-all_agree.false)
+      | else-all-occur-via-else-all-occur w ↦ inl (not_from_Decides _ c.all_occur.ensures w.if-all_occur.false)
     ])

@@ -19,12 +19,12 @@ loop-k-init g c =
     let m = g.S.Source.meaning c.args.source.now in
     (c.start-reach.ensures.steps, c.start-reach.ensures.power ∙ sym (pow-zero m.denominator), c.start-reach.ensures.values)
 
-pub returns-in-err-step : goal.returns-in-err-step
-returns-in-err-step g c =
+pub returns-in_err-step : goal.returns-in_err-step
+returns-in_err-step g c =
     let m = g.S.Source.meaning c.args.source.now in
-    let p = err_from_is_err_and c.from-residual.result c.from-residual.ensures.1 in
+    let p = err_from_is_err_and c.from_residual.result c.from_residual.ensures.1 in
     let k = c.loop-k.-k in
-    let far = c.in-err-step.ensures.0 in
+    let far = c.in_err-step.ensures.0 in
     let whole = power_more m.denominator k c.loop-k.reach.power m.denominator c.loop-k.invariant.1 refl in
     rw p.1 (record {
       values = out_of_range_later m.denominator k c.args.n (omega arith) (omega arith)
@@ -36,7 +36,7 @@ pub loop-k-preserved : goal.loop-k-preserved
 loop-k-preserved g c =
     let m = g.S.Source.meaning c.args.source.now in
     let k = c.loop-k.-k in
-    let next = c.in-ok-step.ensures in (
+    let next = c.in_ok-step.ensures in (
       next.steps ∙ ap (λ i. i + 1) c.loop-k.invariant.0,
       next.power ∙ power_more m.denominator k c.loop-k.reach.power m.denominator c.loop-k.invariant.1 refl,
       λ sound. next.values k sound (c.loop-k.invariant.2 sound),

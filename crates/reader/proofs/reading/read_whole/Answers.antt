@@ -3,4 +3,4 @@ use Rattle.reader.proofs.reading.read_whole.Goals as goal
 
 pub returns : goal.returns
 returns c =
-    sole_due c.args.due c.of.result c.args.bytes.now c.of.ensures.bytes c.of.ensures.exact c.stands-alone.result c.stands-alone.ensures
+    sole_due c.args.due c.of.result c.args.bytes.now c.of.ensures.bytes c.of.ensures.exact c.stands_alone.result c.stands_alone.ensures

@@ -8,10 +8,10 @@ returns c =
     let xs = c.args.bytes.now in
     let i = c.args.at + 4 in
     let k = be2 xs (c.args.at + 2) in
-    let m = i + 4 * c.u16-at.result - i in
+    let m = i + 4 * c.u16_at.result - i in
     let e : m ≡ 4 * k = omega arith in
     let h : i + m ≤ length xs = search rules in
     let l = part_whole 4 k xs i m e h in
-    let s : c.u16-at.result < 65536 = omega arith in
+    let s : c.u16_at.result < 65536 = omega arith in
     let p = branches_of_part k xs i m e h in
     (omega arith, cc, omega arith, test_whole 4 (length (take m (drop i xs))) (omega arith) (omega arith))

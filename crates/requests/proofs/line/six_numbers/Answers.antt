@@ -9,11 +9,11 @@ use Rattle.requests.proofs.line.six_numbers.Goals as goal
 pub loop-i-init : goal.loop-i-init
 loop-i-init c = (refl, λ ns says. says, λ q says. says)
 
-pub returns-in-err-n : goal.returns-in-err-n
-returns-in-err-n c =
-    let p = err_from_is_err_and c.from-residual.result c.from-residual.ensures.1 in
+pub returns-in_err-n : goal.returns-in_err-n
+returns-in_err-n c =
+    let p = err_from_is_err_and c.from_residual.result c.from_residual.ensures.1 in
     rw p.1 (λ q says.
-    c.in-err-n.ensures _ (numbers_left c.loop-i.rest.now (listed q) c.loop-i.i (omega arith) (c.loop-i.invariant.2 q says)).0)
+    c.in_err-n.ensures _ (numbers_left c.loop-i.rest.now (listed q) c.loop-i.i (omega arith) (c.loop-i.invariant.2 q says)).0)
 
 pub loop-i-preserved : goal.loop-i-preserved
 loop-i-preserved c =
@@ -21,9 +21,9 @@ loop-i-preserved c =
     let rest = c.loop-i.rest.now in
     let i = c.loop-i.i in
     let h = c.loop-i.invariant in
-    let read = c.in-ok-n.ensures in (
+    let read = c.in_ok-n.ensures in (
       simp length-set h.0,
-      λ ns more. numbers_more line rest c.loop-i.numbers i c.in-ok-n.n (omega (arith, h.0)) read.0 h.1 ns
+      λ ns more. numbers_more line rest c.loop-i.numbers i c.in_ok-n.n (omega (arith, h.0)) read.0 h.1 ns
           (subst (λ t. Numbers t ns) read.1 more),
       λ q says. subst (λ t. Numbers t (drop (i + 1) (listed q))) (sym read.1) (numbers_left rest (listed q) i (omega arith) (h.2 q says)).1,
     )

@@ -6,8 +6,8 @@ use Rattle.filling.specs.Giving.{given}
 use Rattle.filling.specs.Counted.{tally}
 use Rattle.filling.proofs.counts.Counts.with.Goals as goal
 
-pub overflow-add-counts-in-Ch-2 : goal.overflow-add-counts-in-Ch-2
-overflow-add-counts-in-Ch-2 c =
+pub overflow_add-counts-in-Ch-2 : goal.overflow_add-counts-in-Ch-2
+overflow_add-counts-in-Ch-2 c =
     let entries = c.in-Ch.entries.now in
     let same = ap (λ (r : Record). (tally c.args.self (given (content r))).branches) c.in-Ch.is in
     omega (arith, length-branches (length entries / 4) entries 0, same)

@@ -11,7 +11,7 @@ pub loop-s-preserved : goal.loop-s-preserved
 loop-s-preserved g c =
     let m = g.S.Source.meaning c.args.self.now.below in
     let cls = entry c.args.self.now.classes in
-    elim c.if-class-of-class.branch [
+    elim c.if-class_of-class.branch [
       | then-class-of-class w ↦ omega (arith, before_in m cls c.args.class c.loop-s.s (omega arith), w.total-is)
       | else-class-of-class w ↦ omega (arith, before_out m cls c.args.class c.loop-s.s (λ e. omega arith), w.total-is)
     ]

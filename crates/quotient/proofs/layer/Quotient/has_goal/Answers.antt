@@ -7,15 +7,15 @@ use Rattle.quotient.proofs.layer.Quotient.has_goal.Goals.{else-class-of-class-vi
 pub loop-s-init : goal.loop-s-init
 loop-s-init g c = goal_none _ _ _
 
-pub returns-then-is-goal : goal.returns-then-is-goal
-returns-then-is-goal g c =
+pub returns-then-is_goal : goal.returns-then-is_goal
+returns-then-is_goal g c =
     let m = g.S.Source.meaning c.args.self.now.below in
-    goal_in m (entry c.args.self.now.classes) c.args.class c.loop-s.s m.states (omega arith) (omega arith) c.if-is-goal.ensures
+    goal_in m (entry c.args.self.now.classes) c.args.class c.loop-s.s m.states (omega arith) (omega arith) c.if-is_goal.ensures
 
 pub loop-s-preserved : goal.loop-s-preserved
 loop-s-preserved g c =
     goal_out (g.S.Source.meaning c.args.self.now.below) (entry c.args.self.now.classes) c.args.class c.loop-s.s c.loop-s.invariant
-    (elim c.else-class-of-class.branch [
-      | else-class-of-class-via-then-class-of-class+else-is-goal w ↦ inr (sym w.is-goal.ensures ∙ w.if-is-goal.false)
+    (elim c.else-class_of-class.branch [
+      | else-class-of-class-via-then-class-of-class+else-is-goal w ↦ inr (sym w.is_goal.ensures ∙ w.if-is_goal.false)
       | else-class-of-class-via-else-class-of-class w ↦ inl (λ e. omega arith)
     ])

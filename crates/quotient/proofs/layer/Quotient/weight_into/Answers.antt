@@ -13,7 +13,7 @@ pub loop-t-preserved : goal.loop-t-preserved
 loop-t-preserved g c =
     let m = g.S.Source.meaning c.args.self.now.below in
     let cls = entry c.args.self.now.classes in
-    elim c.if-class-of-class.branch [
+    elim c.if-class_of-class.branch [
       | then-class-of-class w ↦ omega (arith, into_in m cls c.args.s c.args.d c.args.class c.loop-t.t (omega arith), w.total-is)
       | else-class-of-class w ↦ omega (arith, into_out m cls c.args.s c.args.d c.args.class c.loop-t.t (λ e. omega arith), w.total-is)
     ]

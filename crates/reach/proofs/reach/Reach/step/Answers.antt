@@ -18,7 +18,7 @@ returns g c =
           record {
             steps = ap (λ i. i + 1) held.steps;
             power = whole;
-            least = next_values Min m b sound c.next-values-least.result (omega arith) (entry old.least) k (old.power * c.denominator.result) held.least whole (omega arith) c.next-values-least.ensures;
-            largest = next_values Max m b sound c.next-values-largest.result (omega arith) (entry old.largest) k (old.power * c.denominator.result) held.largest whole (omega arith) c.next-values-largest.ensures;
+            least = next_values Min m b sound c.next_values-least.result (omega arith) (entry old.least) k (old.power * c.denominator.result) held.least whole (omega arith) c.next_values-least.ensures;
+            largest = next_values Max m b sound c.next_values-largest.result (omega arith) (entry old.largest) k (old.power * c.denominator.result) held.largest whole (omega arith) c.next_values-largest.ensures;
           };
     }

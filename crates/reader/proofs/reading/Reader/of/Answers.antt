@@ -6,6 +6,6 @@ pub returns : goal.returns
 returns c =
     let r = c.at in
     record {
-      exact = due c.args.due c.args.bytes.now (λ j. (c.type-inv.bytes j).fits) c.args.at (rest_of r.result) r.ensures.0;
+      exact = due c.args.due c.args.bytes.now (λ j. (c.type_inv.bytes j).fits) c.args.at (rest_of r.result) r.ensures.0;
       bytes = r.ensures.1;
     }
