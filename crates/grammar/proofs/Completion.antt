@@ -11,7 +11,7 @@ use Rattle.grammar.specs.declared.place.Place.TheVariants.{HandInDue, ModelDue, 
 use Rattle.grammar.specs.HandIn.{block, precedes}
 use Rattle.grammar.specs.Place.{allowed, fits, wanted}
 use Rattle.grammar.proofs.Lawful.{Lawful}
-use Rattle.grammar.proofs.Marks.{same_mark}
+use Rattle.grammar.proofs.Marks.{same_mark-true}
 use Rattle.grammar.proofs.ModelSteps.{wants_choice, wants_state, choice_next, state_next}
 
 -- in a model file: a CH without branches for each choice that is to come, an ST without choices for each state, and the end
@@ -53,8 +53,8 @@ states_record n s (suc k) m e = (ch [], sym (e ∙ wants_choice s k), refl)
 
 -- a record of each mark that is allowed
 pub some_record : (p : Place) (m : Mark) → allowed p m ≡ true → (r : Content) × (mark_of r ≡ m) × (fits p r ≡ true)
-some_record HandInDue m a = (hd 5 0, sym (same_mark m Hd a), refl)
-some_record ModelDue m a = (md 0 0, sym (same_mark m Md a), refl)
+some_record HandInDue m a = (hd 5 0, sym (same_mark-true m Hd a), refl)
+some_record ModelDue m a = (md 0 0, sym (same_mark-true m Md a), refl)
 some_record (Within kind last) m a = within_record kind last m a
-some_record (States n states choices) m a = states_record n states choices m (same_mark m (wanted states choices) a)
+some_record (States n states choices) m a = states_record n states choices m (same_mark-true m (wanted states choices) a)
 some_record Done m a = absurd (false≢true a)

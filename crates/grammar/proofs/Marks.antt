@@ -33,8 +33,8 @@ nth_number Rw = refl
 nth_number Wf = refl
 nth_number Zz = refl
 
-pub same_mark : (a b : Mark) → same_mark a b ≡ true → a ≡ b
-same_mark a b e = sym (nth_number a) ∙ ap nth_mark (eqb-true (mark_number a) (mark_number b) e) ∙ nth_number b
+pub same_mark-true : (a b : Mark) → same_mark a b ≡ true → a ≡ b
+same_mark-true a b e = sym (nth_number a) ∙ ap nth_mark (eqb-true (mark_number a) (mark_number b) e) ∙ nth_number b
 
 -- what a record of a mark is; nothing is said of the records that a hand-in's body has
 abbrev pub Form : Mark → Content → Type 0
@@ -64,4 +64,4 @@ own_form (wf s h c m es) = tt
 own_form zz = refl
 
 pub form : (r : Content) (m : Mark) → same_mark (mark_of r) m ≡ true → Form m r
-form r m e = subst (λ x. Form x r) (same_mark (mark_of r) m e) (own_form r)
+form r m e = subst (λ x. Form x r) (same_mark-true (mark_of r) m e) (own_form r)

@@ -65,11 +65,11 @@ module _ (start : Place) (W : List Content → Type 0) (to : (rs : List Content)
   told_or ds p at false x y s t = t refl
 
   module _ (ds : List Content) (p : Place) (l : Leads start ds p) (at : ℕ) where
-    same_mark : (m k : Mark) → Ok m ≡ mark_at xs at → Marked (drop at xs) k → k ≡ m
-    same_mark m k e g = let h = marked_mark xs at k g in cc
+    one_mark : (m k : Mark) → Ok m ≡ mark_at xs at → Marked (drop at xs) k → k ≡ m
+    one_mark m k e g = let h = marked_mark xs at k g in cc
 
     not_allowed : (m : Mark) → Ok m ≡ mark_at xs at → allowed p m ≡ false → BadMark W ds (drop at xs)
-    not_allowed m e a = (long_mark xs at m e, λ k g w. true≢false (sym (allows_only start W to from ds p k l w) ∙ ap (allowed p) (same_mark m k e g) ∙ a))
+    not_allowed m e a = (long_mark xs at m e, λ k g w. true≢false (sym (allows_only start W to from ds p k l w) ∙ ap (allowed p) (one_mark m k e g) ∙ a))
 
     too_short : (m : Mark) → Ok m ≡ mark_at xs at → allowed p m ≡ true → ltb (length xs) (at + size m xs at) ≡ true → Ends W ds (drop at xs)
     too_short m e a h =

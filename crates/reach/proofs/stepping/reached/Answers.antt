@@ -23,7 +23,7 @@ pub returns-in_err-step : goal.returns-in_err-step
 returns-in_err-step g c =
     let m = g.S.Source.meaning c.args.source.now in
     let p = err_from_is_err_and c.from_residual.result c.from_residual.ensures.1 in
-    let k = c.loop-k.-k in
+    let k = c.loop-k._k in
     let far = c.in_err-step.ensures.0 in
     let whole = power_more m.denominator k c.loop-k.reach.power m.denominator c.loop-k.invariant.1 refl in
     rw p.1 (record {
@@ -35,7 +35,7 @@ returns-in_err-step g c =
 pub loop-k-preserved : goal.loop-k-preserved
 loop-k-preserved g c =
     let m = g.S.Source.meaning c.args.source.now in
-    let k = c.loop-k.-k in
+    let k = c.loop-k._k in
     let next = c.in_ok-step.ensures in (
       next.steps ∙ ap (λ i. i + 1) c.loop-k.invariant.0,
       next.power ∙ power_more m.denominator k c.loop-k.reach.power m.denominator c.loop-k.invariant.1 refl,
@@ -46,7 +46,7 @@ pub returns : goal.returns
 returns g c =
     let m = g.S.Source.meaning c.args.source.now in
     let n = c.args.n in
-    let all : c.loop-k.-k ≡ n = omega arith in
+    let all : c.loop-k._k ≡ n = omega arith in
     let whole : c.loop-k.reach.power ≡ m.denominator ^ n = c.loop-k.invariant.1 ∙ ap (λ i. m.denominator ^ i) all in
     let held : Sound m → Reaches m n c.loop-k.reach = λ sound. subst (λ i. Reaches m i c.loop-k.reach) all (c.loop-k.invariant.2 sound) in
     record {

@@ -5,6 +5,6 @@ use Rattle.reach.proofs.stepping.reached.Given as goal
 
 abbrev pub invariant-loop-k : goal.invariant-loop-k
 invariant-loop-k g l =
-    (l.reach.steps ≡ l.-k)
-    × (l.reach.power ≡ (g.S.Source.meaning l.source).denominator ^ l.-k)
-    × (Sound (g.S.Source.meaning l.source) → Reaches (g.S.Source.meaning l.source) l.-k l.reach)
+    (l.reach.steps ≡ l._k)
+    × (l.reach.power ≡ (g.S.Source.meaning l.source).denominator ^ l._k)
+    × (Sound (g.S.Source.meaning l.source) → Reaches (g.S.Source.meaning l.source) l._k l.reach)
