@@ -5,7 +5,7 @@ use Rattle.filling.proofs.placing.put.Goals as goal
 pub returns-in-St : goal.returns-in-St
 returns-in-St c =
     state_placed c.args.counts c.args.item (tables c.args.states.now c.args.choices.now c.args.branches.now) c.requires
-    c.in-St.goal c.in-St.own_val c.in-St.is
+    c.in-St.goal c.in-St.own c.in-St.is
 
 pub returns-in-Ch : goal.returns-in-Ch
 returns-in-Ch c =
