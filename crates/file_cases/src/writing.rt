@@ -64,7 +64,7 @@ fn ceilings(rt: HostRuntime) {
     assert_eq!(rt; writer.len(), 22);
     assert!(rt;
         &buffer[0..24]
-            == b"HD\x01\x01CE\x00\x03\x00\x10\x00\x00CE\x02\xbc\x00\x00\x00\x09ZZ\x07\x07"
+            == b"HD\x01\x01CE\x00\x03\x00\x10\x00\x00CE\x02\xbc\x00\x00\x00\x09ZZ\x07\x07".as_slice()
     );
     assert!(rt; read_hand_in(&buffer[0..22]).is_ok());
 }
@@ -86,7 +86,9 @@ fn refused_by_mark(rt: HostRuntime) {
     assert_eq!(rt; writer.put(end()), Ok(()));
     assert_eq!(rt; writer.put(end()), Err(WriteFault::BadMark(19)));
     assert_eq!(rt; writer.len(), 19);
-    assert!(rt; &buffer[0..20] == b"HD\x03\x00PC\x00\x05\x00PM\x00\x01\x00\x01\x00\x00ZZ\x00");
+    assert!(rt;
+        &buffer[0..20] == b"HD\x03\x00PC\x00\x05\x00PM\x00\x01\x00\x01\x00\x00ZZ\x00".as_slice()
+    );
 }
 
 #[test]
@@ -179,7 +181,7 @@ fn no_room(rt: HostRuntime) {
     assert_eq!(rt; WriteFault::NoRoom.number(), 5);
     assert_eq!(rt; WriteFault::NoRoom.place(), 0);
     assert_eq!(rt; writer.put(end()), Ok(()));
-    assert!(rt; &buffer[0..11] == b"HD\x01\x00ZZ\x07\x07\x07\x07\x07");
+    assert!(rt; &buffer[0..11] == b"HD\x01\x00ZZ\x07\x07\x07\x07\x07".as_slice());
 }
 
 fn written_again(rt: &impl Abort, bytes: &[u8]) {
@@ -213,9 +215,9 @@ fn not_written_again(rt: HostRuntime) {
             Err(RewriteFault::Writing(WriteFault::NoRoom))
         )
     );
-    assert!(rt; &small[0..5] == b"\x07\x07\x07\x07\x07");
+    assert!(rt; &small[0..5] == b"\x07\x07\x07\x07\x07".as_slice());
     assert!(rt;
         matches!(rewrite(b"HD\x05\x00CE", &mut small), Err(RewriteFault::Reading(fault)) if fault.number() == 2)
     );
-    assert!(rt; &small[0..5] == b"\x07\x07\x07\x07\x07");
+    assert!(rt; &small[0..5] == b"\x07\x07\x07\x07\x07".as_slice());
 }
