@@ -1,5 +1,5 @@
 // Tests of inspections and exact values, on a source of a caller's own: it gives its meaning, its letter and the five answers.
-ghost use Rattle.std.specs.Prelude.{◌&&◌, ltb, if◌then◌else◌, nat_lt};
+ghost use Rattle.std.specs.Prelude.{◌&&◌, if◌then◌else◌, nat_lt};
 ghost use Rattle.std.proofs.Common.{rules};
 
 use inspection::{Unsound, inspect};
@@ -25,7 +25,7 @@ struct Flat {
 impl Source for Flat {
     const LETTER: u8 = FLAT;
 
-    ghost meaning = { λ x. record { states = x.states; denominator = x.denominator; goal = λ s. nat_lt s x.goals && nat_lt s x.states; choices = λ s. (if ltb s x.states then x.choices else 0); weight = λ s c t. (if ltb s x.states && nat_lt c x.choices && nat_lt t x.states then x.weight else 0) } };
+    ghost meaning = { λ x. record { states = x.states; denominator = x.denominator; goal = λ s. nat_lt s x.goals && nat_lt s x.states; choices = λ s. (if nat_lt s x.states then x.choices else 0); weight = λ s c t. (if nat_lt s x.states && nat_lt c x.choices && nat_lt t x.states then x.weight else 0) } };
 
     ghost mark = { 70 };
 

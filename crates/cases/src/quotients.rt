@@ -1,5 +1,5 @@
 // Tests of the quotient layer.
-ghost use Rattle.std.specs.Prelude.{◌+◌, ◌&&◌, ltb, if◌then◌else◌, ◌==◌, nat_le, nat_lt};
+ghost use Rattle.std.specs.Prelude.{◌+◌, ◌&&◌, if◌then◌else◌, ◌==◌, nat_le, nat_lt};
 ghost use Rattle.std.proofs.Common.{rules};
 
 use inspection::inspect;
@@ -13,7 +13,7 @@ struct Stairs;
 impl Source for Stairs {
     const LETTER: u8 = b'S';
 
-    ghost meaning = { λ _. record { states = 4; denominator = 1; goal = λ s. nat_lt s 4 && nat_le 2 s; choices = λ s. (if ltb s 4 then s + 1 else 0); weight = λ s c t. (if ltb s 4 && (nat_le c s && c == t) then 1 else 0) } };
+    ghost meaning = { λ _. record { states = 4; denominator = 1; goal = λ s. nat_lt s 4 && nat_le 2 s; choices = λ s. (if nat_lt s 4 then s + 1 else 0); weight = λ s c t. (if nat_lt s 4 && (nat_le c s && c == t) then 1 else 0) } };
 
     ghost mark = { 83 };
 

@@ -29,7 +29,7 @@ fn as_many_events_as_fit(rt: HostRuntime) -> Result<(), Fail> {
         Err(refusal) => {
             assert!(rt; refusal.letter == b'K' && refusal.number() == 6 && refusal.place() == 0);
             Ok(())
-        },
+        }
     }
 }
 

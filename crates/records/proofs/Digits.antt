@@ -72,17 +72,17 @@ module _ (xs : List ℕ) (f : (j : ℕ) → get_or xs j 0 < 256) where
 
 -- what stands past a front is the same without the front
 module _ (pre ys : List ℕ) where
-  pub get_d_past : (n : ℕ) → get_or (pre ++ ys) (length pre + n) 0 ≡ get_or ys n 0
-  get_d_past n = get_or-append-add pre ys n 0
+  pub get_or_past : (n : ℕ) → get_or (pre ++ ys) (length pre + n) 0 ≡ get_or ys n 0
+  get_or_past n = get_or-append-add pre ys n 0
 
   pub get_or_first : get_or (pre ++ ys) (length pre) 0 ≡ get_or ys 0 0
   get_or_first = ap (λ n. get_or (pre ++ ys) n 0) (sym (add-zero (length pre))) ∙ get_or-append-add pre ys 0 0
 
   pub be2_past : (n : ℕ) → be2 (pre ++ ys) (length pre + n) ≡ be2 ys n
-  be2_past n = rw (add_assoc (length pre) n 1, get_d_past n, get_d_past (n + 1)) refl
+  be2_past n = rw (add_assoc (length pre) n 1, get_or_past n, get_or_past (n + 1)) refl
 
   pub be4_past : (n : ℕ) → be4 (pre ++ ys) (length pre + n) ≡ be4 ys n
-  be4_past n = rw (add_assoc (length pre) n 1, add_assoc (length pre) n 2, add_assoc (length pre) n 3, get_d_past n, get_d_past (n + 1), get_d_past (n + 2), get_d_past (n + 3)) refl
+  be4_past n = rw (add_assoc (length pre) n 1, add_assoc (length pre) n 2, add_assoc (length pre) n 3, get_or_past n, get_or_past (n + 1), get_or_past (n + 2), get_or_past (n + 3)) refl
 
   pub be8_past : (n : ℕ) → be8 (pre ++ ys) (length pre + n) ≡ be8 ys n
   be8_past n = ap (λ a. a * 4294967296 + be4 (pre ++ ys) (length pre + n + 4)) (be4_past n) ∙ ap (λ i. be4 ys n * 4294967296 + be4 (pre ++ ys) i) (add_assoc (length pre) n 4) ∙ ap (λ b. be4 ys n * 4294967296 + b) (be4_past (n + 4))

@@ -6,7 +6,7 @@ use Rattle.std.proofs.lemmas.Option.{slice_get_past}
 use Rattle.std.proofs.lemmas.List.{get_or-take, get_or-drop, length-take, length-drop, length-append}
 use Rattle.records.specs.Decode.{entries_from, branch_from, branches_from, portion_from, portions_from}
 use Rattle.records.specs.Held.{branches, portions}
-use Rattle.records.proofs.Digits.{get_d_past, be2_past}
+use Rattle.records.proofs.Digits.{get_or_past, be2_past}
 
 -- what holds of each
 abbrev pub Each : {E : Type 0} → (E → Type 0) → List E → Type 0
@@ -49,9 +49,9 @@ module _ {E : Type 0} (w : ℕ) (one : List ℕ → ℕ → E) where
       ∙ ap (λ es. one ys n ∷ es) (ap (entries_from w one k (pre ++ ys)) (add_assoc (length pre) n w) ∙ entries_past same k pre ys (n + w))
 
   module _ (bytes : E → List ℕ) (width : (e : E) → length (bytes e) ≡ w) where
-    pub length-joined : (es : List E) → length (flat_map bytes es) ≡ w * length es
-    length-joined [] = omega arith
-    length-joined (e ∷ es) = length-append (bytes e) (flat_map bytes es) ∙ omega (arith, width e, length-joined es, mul-suc w (length es))
+    pub length-flat_map : (es : List E) → length (flat_map bytes es) ≡ w * length es
+    length-flat_map [] = omega arith
+    length-flat_map (e ∷ es) = length-append (bytes e) (flat_map bytes es) ∙ omega (arith, width e, length-flat_map es, mul-suc w (length es))
 
     -- the bytes of the entries that bytes give are those bytes
     pub entries_again : (xs : List ℕ) → ((i : ℕ) → i + w ≤ length xs → drop i xs ≡ bytes (one xs i) ++ drop (i + w) xs) → (n i : ℕ) → i + w * n ≤ length xs → drop i xs ≡ flat_map bytes (entries_from w one n xs i) ++ drop (i + w * n) xs
@@ -83,16 +83,16 @@ pub test_whole : (w z : ℕ) → z % w ≡ 0 → z / w < 65536 → (eqb (z % w) 
 test_whole w z e h = and_from (eqb (z % w) 0) (ltb (z / w) 65536) (eq-eqb (z % w) 0 e) (lt-ltb (z / w) 65536 h)
 
 -- a number inside a part
-get_d_part : (xs : List ℕ) (i m j : ℕ) → j < m → get_or (take m (drop i xs)) j 0 ≡ get_or xs (i + j) 0
-get_d_part xs i m j h = get_or-take m (drop i xs) j 0 h ∙ get_or-drop i xs j 0
+get_or_part : (xs : List ℕ) (i m j : ℕ) → j < m → get_or (take m (drop i xs)) j 0 ≡ get_or xs (i + j) 0
+get_or_part xs i m j h = get_or-take m (drop i xs) j 0 h ∙ get_or-drop i xs j 0
 
 -- branches: 4 bytes each
 branch_inside : (xs : List ℕ) (i m j : ℕ) → j + 4 ≤ m → branch_from (take m (drop i xs)) j ≡ branch_from xs (i + j)
 branch_inside xs i m j h =
-    let a = get_d_part xs i m j (omega arith) in
-    let b = get_d_part xs i m (j + 1) (omega arith) in
-    let c = get_d_part xs i m (j + 2) (omega arith) in
-    let d = get_d_part xs i m (j + 2 + 1) (omega arith) in
+    let a = get_or_part xs i m j (omega arith) in
+    let b = get_or_part xs i m (j + 1) (omega arith) in
+    let c = get_or_part xs i m (j + 2) (omega arith) in
+    let d = get_or_part xs i m (j + 2 + 1) (omega arith) in
     rw (a, b, c, d) (simp add_assoc)
 
 pub branch_past : (pre ys : List ℕ) (n : ℕ) → branch_from (pre ++ ys) (length pre + n) ≡ branch_from ys n
@@ -107,15 +107,15 @@ branches_of_part k xs i m e h =
 -- portions: 5 bytes each
 portion_inside : (xs : List ℕ) (i m j : ℕ) → j + 5 ≤ m → portion_from (take m (drop i xs)) j ≡ portion_from xs (i + j)
 portion_inside xs i m j h =
-    let a = get_d_part xs i m j (omega arith) in
-    let b = get_d_part xs i m (j + 1) (omega arith) in
-    let c = get_d_part xs i m (j + 2) (omega arith) in
-    let d = get_d_part xs i m (j + 3) (omega arith) in
-    let e = get_d_part xs i m (j + 3 + 1) (omega arith) in
+    let a = get_or_part xs i m j (omega arith) in
+    let b = get_or_part xs i m (j + 1) (omega arith) in
+    let c = get_or_part xs i m (j + 2) (omega arith) in
+    let d = get_or_part xs i m (j + 3) (omega arith) in
+    let e = get_or_part xs i m (j + 3 + 1) (omega arith) in
     rw (a, b, c, d, e) (simp add_assoc)
 
 pub portion_past : (pre ys : List ℕ) (n : ℕ) → portion_from (pre ++ ys) (length pre + n) ≡ portion_from ys n
-portion_past pre ys n = rw (add_assoc (length pre) n 2, add_assoc (length pre) n 3, be2_past pre ys n, get_d_past pre ys (n + 2), be2_past pre ys (n + 3)) refl
+portion_past pre ys n = rw (add_assoc (length pre) n 2, add_assoc (length pre) n 3, be2_past pre ys n, get_or_past pre ys (n + 2), be2_past pre ys (n + 3)) refl
 
 pub portions_of_part : (k : ℕ) (xs : List ℕ) (i m : ℕ) → m ≡ 5 * k → i + m ≤ length xs → portions (take m (drop i xs)) ≡ portions_from k xs i
 portions_of_part k xs i m e h =

@@ -1,7 +1,7 @@
 pub mod Lawful
 pub mod Sheet
 pub mod SheetA
-pub mod Retried
 pub mod Limits
 pub mod Numbering
 pub mod Giving
+pub mod Retried

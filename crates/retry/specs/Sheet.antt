@@ -17,7 +17,7 @@ number_of x Done = first_end x
 number_of x GaveUp = first_end x + 1
 number_of x CountedTwice = first_end x + 2
 
--- the stage that a number below firstEnd x + 3 stands for; Numbered says that this undoes number_of
+-- the stage that a number below first_end x + 3 stands for; Numbered says that this undoes number_of
 abbrev pub stage_of : Sheet → ℕ → Stage
 stage_of x s =
     cond (nat_lt s (first_end x)) (Sending (s / 2 / (x.resends + 1)) (s / 2 % (x.resends + 1)) (s % 2 == 1))

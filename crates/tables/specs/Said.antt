@@ -1,5 +1,5 @@
 -- The model that a file says.
-use Rattle.std.specs.Prelude.{ℕ, cond, List, [], ◌∷◌, length, get_or, ◌==◌, slice_index_or}
+use Rattle.std.specs.Prelude.{ℕ, cond, List, [], ◌∷◌, length, ◌==◌, slice_index_or}
 use Rattle.mdp.specs.Model.{Model}
 use Rattle.records.specs.declared.content.Branch.{Branch}
 use Rattle.grammar.specs.ModelFile.{State}
@@ -19,7 +19,7 @@ said denominator states =
     record {
       states = length states;
       denominator = denominator;
-      goal = λ s. ((get_or states s no_state).goal == 1);
-      choices = λ s. length (get_or states s no_state).choices;
-      weight = λ s c t. weight_among (slice_index_or (get_or states s no_state).choices c []) t;
+      goal = λ s. ((slice_index_or states s no_state).goal == 1);
+      choices = λ s. length (slice_index_or states s no_state).choices;
+      weight = λ s c t. weight_among (slice_index_or (slice_index_or states s no_state).choices c []) t;
     }

@@ -1,5 +1,5 @@
 // A sheet answers for its model.
-ghost use Rattle.std.specs.Prelude.{◌≡◌, ◌≤◌, true, if◌then◌else◌, nat_eq};
+ghost use Rattle.std.specs.Prelude.{◌≡◌, ◌≤◌, true, if◌then◌else◌, ◌==◌};
 ghost use Rattle.retry.specs.Sheet.{number_of, Proper, gifts, given, retried};
 ghost use Rattle.retry.specs.Retried;
 
@@ -15,7 +15,7 @@ impl Sheet {
     fn give(&self, weight: u32, stage: Stage, t: u32) -> u32
         requires lawful { self.now.lawful ≡ true }
         requires proper { Proper self.now stage }
-        ensures value { result ≡ (if nat_eq (number_of self.now stage) t then weight else 0) }
+        ensures value { result ≡ (if number_of self.now stage == t then weight else 0) }
         ensures most { result ≤ weight }
     {
         if self.number_of(stage) == t {
