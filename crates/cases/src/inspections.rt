@@ -8,9 +8,6 @@ use quotient::Quotient;
 use reach::{TooFar, exact_values};
 use sink::Sink;
 
-// The letter of the flat source.
-const FLAT: u8 = b'F';
-
 // Every state has the same number of choices, and every choice the same weight to every state.
 #[derive(Clone, Copy)]
 struct Flat {
@@ -23,17 +20,13 @@ struct Flat {
 }
 
 impl Source for Flat {
-    const LETTER: u8 = FLAT;
+    const LETTER: u8 = b'F';
+
+    ghost LETTER = { 70 };
 
     ghost meaning = { λ x. record { states = x.states; denominator = x.denominator; goal = λ s. nat_lt s x.goals && nat_lt s x.states; choices = λ s. (if nat_lt s x.states then x.choices else 0); weight = λ s c t. (if nat_lt s x.states && nat_lt c x.choices && nat_lt t x.states then x.weight else 0) } };
 
-    ghost mark = { 70 };
-
     ghost bounded = { Prim.search rules };
-
-    fn own_letter() -> u8 {
-        FLAT
-    }
 
     fn states(&self) -> u32 {
         self.states

@@ -86,14 +86,14 @@ fn rules_out_soundness<S: Source>(source: &S, fault: Fault)
 
 // Whether the source's model is sound; if not, the fault of the smallest number that it has anywhere, at the lowest state.
 pub fn inspect<S: Source>(source: &S) -> Result<(), Unsound>
-    ensures { Inspected (S.Source.meaning source.now) S.Source.mark result }
+    ensures { Inspected (S.Source.meaning source.now) S.Source.LETTER result }
 {
     match first_fault(source) {
         None => Ok(()),
         Some(fault) => {
             rules_out_soundness(source, fault);
             Err(Unsound {
-                letter: S::own_letter(),
+                letter: S::LETTER,
                 fault,
             })
         }

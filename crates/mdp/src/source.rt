@@ -6,13 +6,9 @@ pub trait Source {
     // The letter of this kind of source, which refusals of an opening name.
     const LETTER: u8;
 
+    ghost LETTER: { ℕ };
+
     ghost meaning: { Self → Model };
-
-    // The letter, for clauses: they cannot cite a constant of a trait.
-    ghost mark: { ℕ };
-
-    fn own_letter() -> u8
-        ensures { result ≡ mark };
 
     fn states(&self) -> u32
         ensures { result ≡ (meaning self.now).states };

@@ -8,9 +8,6 @@ ghost use Rattle.std.proofs.Common.{rules};
 use crate::classes::{class_of, divide};
 use mdp::Source;
 
-// The letter of the quotient layer.
-const QUOTIENT: u8 = b'Q';
-
 // Any source, with a class for each of its states.
 #[derive(Drop)]
 pub struct Quotient<S> {
@@ -99,17 +96,13 @@ impl<S: Source> Quotient<S> {
 }
 
 impl<S: Source> Source for Quotient<S> {
-    const LETTER: u8 = QUOTIENT;
+    const LETTER: u8 = b'Q';
+
+    ghost LETTER = { 81 };
 
     ghost meaning = { λ q. quotient (S.Source.meaning q.below) (entry q.classes) q.count };
 
-    ghost mark = { 81 };
-
     ghost bounded = { Prim.search rules };
-
-    fn own_letter() -> u8 {
-        QUOTIENT
-    }
 
     fn states(&self) -> u32 {
         self.count

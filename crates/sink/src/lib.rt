@@ -8,9 +8,6 @@ ghost use Rattle.std.proofs.Common.{rules};
 
 use mdp::Source;
 
-// The letter of the sink layer.
-const SINK: u8 = b'K';
-
 // Any source, with one choice that stays put at each state that has none.
 #[derive(Drop)]
 pub struct Sink<S> {
@@ -34,17 +31,13 @@ impl<S: Source> Sink<S> {
 }
 
 impl<S: Source> Source for Sink<S> {
-    const LETTER: u8 = SINK;
+    const LETTER: u8 = b'K';
+
+    ghost LETTER = { 75 };
 
     ghost meaning = { λ k. sinked (S.Source.meaning k.below) };
 
-    ghost mark = { 75 };
-
     ghost bounded = { Prim.search rules };
-
-    fn own_letter() -> u8 {
-        SINK
-    }
 
     fn states(&self) -> u32 {
         self.below.states()

@@ -12,9 +12,6 @@ use crate::search::find;
 use mdp::Source;
 use records::Branch;
 
-// The letter of the table.
-const TABLE: u8 = b'T';
-
 // A model that rests on rows.
 #[derive(Clone, Copy)]
 pub struct Table<R> {
@@ -66,17 +63,13 @@ impl<'a> Table<Lent<'a>> {
 }
 
 impl<R: Rows> Source for Table<R> {
-    const LETTER: u8 = TABLE;
+    const LETTER: u8 = b'T';
+
+    ghost LETTER = { 84 };
 
     ghost meaning = { λ x. tabled (R.Rows.held x.rows) };
 
-    ghost mark = { 84 };
-
     ghost bounded = { λ x. Bounds.bounded (R.Rows.held x.rows) };
-
-    fn own_letter() -> u8 {
-        TABLE
-    }
 
     fn states(&self) -> u32 {
         self.rows.states().len() as u32

@@ -7,9 +7,6 @@ use super::Sheet;
 use crate::stage::Stage;
 use mdp::Source;
 
-// The letter of the retry sheet.
-const RETRY: u8 = b'R';
-
 impl Sheet {
     // The part of a weight given to `stage` that state `t` gets: all, or nothing.
     fn give(&self, weight: u32, stage: Stage, t: u32) -> u32
@@ -60,17 +57,13 @@ impl Sheet {
 }
 
 impl Source for Sheet {
-    const LETTER: u8 = RETRY;
+    const LETTER: u8 = b'R';
+
+    ghost LETTER = { 82 };
 
     ghost meaning = { retried };
 
-    ghost mark = { 82 };
-
     ghost bounded = { λ x. Retried.bounded x };
-
-    fn own_letter() -> u8 {
-        RETRY
-    }
 
     fn states(&self) -> u32 {
         if self.lawful { self.first_end() + 3 } else { 0 }
