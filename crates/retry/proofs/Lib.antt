@@ -1,1 +1,1 @@
-mod SheetA
+pub mod ValuesOfA

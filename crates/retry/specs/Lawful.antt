@@ -1,17 +1,18 @@
--- Which retry sheets are lawful.
+-- Which numbers make a lawful retry sheet.
 use Rattle.std.specs.Prelude.{ℕ, ◌+◌, ◌*◌, Bool, ◌&&◌, nat_le}
+use Rattle.retry.specs.declared.numbers.Numbers.{Numbers}
 
--- the number of states in which an event is being sent
-abbrev pub sending_states : ℕ → ℕ → ℕ
-sending_states events resends = 2 * events * (resends + 1)
+-- the states in which an event is being sent come first; the three ends follow
+abbrev pub first_end : Numbers → ℕ
+first_end x = 2 * x.events * (x.resends + 1)
 
 -- some events and a denominator; no number too large; no more weight lost than there is; and no more than 256 states, with the three ends
-abbrev pub is_lawful : ℕ → ℕ → ℕ → ℕ → ℕ → Bool
-is_lawful events resends denominator request receipt =
-    nat_le 1 events
-    && nat_le events 255
-    && nat_le resends 255
-    && nat_le 1 denominator
-    && nat_le denominator 65535
-    && nat_le (request + receipt) denominator
-    && nat_le (sending_states events resends + 3) 256
+abbrev pub is_lawful : Numbers → Bool
+is_lawful x =
+    nat_le 1 x.events
+    && nat_le x.events 255
+    && nat_le x.resends 255
+    && nat_le 1 x.denominator
+    && nat_le x.denominator 65535
+    && nat_le (x.request + x.receipt) x.denominator
+    && nat_le (first_end x + 3) 256

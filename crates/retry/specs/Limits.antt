@@ -1,12 +1,10 @@
--- What a lawful sheet keeps to.
+-- What lawful numbers keep to.
 use Rattle.std.specs.Prelude.{◌≡◌, ◌+◌, ◌≤◌, true, nat_le}
-use Rattle.std.proofs.Common.{sym, ◌∙◌}
 use Rattle.std.proofs.lemmas.Bool.{and_parts, leb-true}
-use Rattle.retry.specs.declared.sheet.Sheet.{Sheet}
-use Rattle.retry.specs.Lawful.{is_lawful}
-use Rattle.retry.specs.Sheet.{first_end}
+use Rattle.retry.specs.declared.numbers.Numbers.{Numbers}
+use Rattle.retry.specs.Lawful.{first_end, is_lawful}
 
-pub record Limits (x : Sheet) : Type 0 where
+pub record Limits (x : Numbers) : Type 0 where
   pub some_events : 1 ≤ x.events
   pub few_events : x.events ≤ 255
   pub few_resends : x.resends ≤ 255
@@ -15,10 +13,9 @@ pub record Limits (x : Sheet) : Type 0 where
   pub lost : x.request + x.receipt ≤ x.denominator
   pub few_states : first_end x + 3 ≤ 256
 
-pub limits_from : (x : Sheet) → x.lawful ≡ true → Limits x
+pub limits_from : (x : Numbers) → is_lawful x ≡ true → Limits x
 limits_from x h =
-    let all : is_lawful x.events x.resends x.denominator x.request x.receipt ≡ true = sym x.limits ∙ h in
-    let p = and_parts _ (nat_le (first_end x + 3) 256) all in
+    let p = and_parts _ (nat_le (first_end x + 3) 256) h in
     let q = and_parts _ (nat_le (x.request + x.receipt) x.denominator) p.0 in
     let r = and_parts _ (nat_le x.denominator 65535) q.0 in
     let s = and_parts _ (nat_le 1 x.denominator) r.0 in

@@ -6,8 +6,9 @@ use Rattle.std.proofs.lemmas.Bool.{lt-ltb, cases_eq, cases_lt, cond-true}
 use Rattle.std.proofs.lemmas.Bool.Decides.{nat_tests}
 use Rattle.retry.specs.declared.stage.Stage.{Stage}
 use Rattle.retry.specs.declared.stage.Stage.TheVariants.{Sending, Done, GaveUp, CountedTwice}
-use Rattle.retry.specs.declared.sheet.Sheet.{Sheet}
-use Rattle.retry.specs.Sheet.{first_end, number_of, stage_of, Proper, Numbered}
+use Rattle.retry.specs.declared.numbers.Numbers.{Numbers}
+use Rattle.retry.specs.Lawful.{first_end}
+use Rattle.retry.specs.Sheet.{number_of, stage_of, Proper, Numbered}
 
 -- the row of an event, and the place in it
 place_below : (e m i j : ℕ) → i < e → j ≤ m → i * (m + 1) + j < e * (m + 1)
@@ -20,10 +21,10 @@ bit_below true = omega arith
 bit_below false = omega arith
 
 sending_below :
-    (x : Sheet) (i j : ℕ) (f : Bool) → i < x.events → j ≤ x.resends → number_of x (Sending i j f) < first_end x
+    (x : Numbers) (i j : ℕ) (f : Bool) → i < x.events → j ≤ x.resends → number_of x (Sending i j f) < first_end x
 sending_below x i j f h k = omega (arith, place_below x.events x.resends i j h k, bit_below f)
 
-pub number_below : (x : Sheet) (p : Stage) → Proper x p → number_of x p < first_end x + 3
+pub number_below : (x : Numbers) (p : Stage) → Proper x p → number_of x p < first_end x + 3
 number_below x (Sending i j f) h = omega (arith, sending_below x i j f h.0 h.1)
 number_below x Done h = omega arith
 number_below x GaveUp h = omega arith
@@ -34,7 +35,7 @@ bit_back true = refl
 bit_back false = refl
 
 -- a number is taken apart as it was put together
-sending_back : (x : Sheet) (i j : ℕ) (f : Bool) → i < x.events → j ≤ x.resends → stage_of x (number_of x (Sending i j f)) ≡ Sending i j f
+sending_back : (x : Numbers) (i j : ℕ) (f : Bool) → i < x.events → j ≤ x.resends → stage_of x (number_of x (Sending i j f)) ≡ Sending i j f
 sending_back x i j f h k =
     let n = x.resends + 1 in
     let s = number_of x (Sending i j f) in
@@ -44,7 +45,7 @@ sending_back x i j f h k =
     cond-true (nat_lt s (first_end x)) _ _ (lt-ltb s (first_end x) (sending_below x i j f h k))
     ∙ rw (half, bit, digits_div i l, digits_mod i l, bit_back f) refl
 
-number_back : (x : Sheet) (p : Stage) → Proper x p → stage_of x (number_of x p) ≡ p
+number_back : (x : Numbers) (p : Stage) → Proper x p → stage_of x (number_of x p) ≡ p
 number_back x (Sending i j f) h = sending_back x i j f h.0 h.1
 number_back x Done h = grind (arith, nat_tests)
 number_back x GaveUp h = grind (arith, nat_tests)
@@ -54,10 +55,10 @@ bit_forth : (b : ℕ) → b < 2 → cond (b == 1) 1 0 ≡ b
 bit_forth b h = grind (arith, nat_tests)
 
 -- the stage of a number below the first end
-abbrev sending_of : Sheet → ℕ → Stage
+abbrev sending_of : Numbers → ℕ → Stage
 sending_of x s = Sending (s / 2 / (x.resends + 1)) (s / 2 % (x.resends + 1)) (s % 2 == 1)
 
-pub sending_forth : (x : Sheet) (s : ℕ) → s < first_end x → Proper x (sending_of x s) × (number_of x (sending_of x s) ≡ s)
+pub sending_forth : (x : Numbers) (s : ℕ) → s < first_end x → Proper x (sending_of x s) × (number_of x (sending_of x s) ≡ s)
 sending_forth x s h =
     let n = x.resends + 1 in
     let half : s / 2 < x.events * n = omega arith in
@@ -68,7 +69,7 @@ sending_forth x s h =
     (((div-lt_iff_lt-mul some).1 half, omega arith), omega (arith, row, bit, div-add-mod' s 2))
 
 -- a number stands for a stage that the sheet has
-stage_forth : (x : Sheet) (s : ℕ) → s < first_end x + 3 → Proper x (stage_of x s) × (number_of x (stage_of x s) ≡ s)
+stage_forth : (x : Numbers) (s : ℕ) → s < first_end x + 3 → Proper x (stage_of x s) × (number_of x (stage_of x s) ≡ s)
 stage_forth x s h =
     let P : Stage → Type 0 = λ p. Proper x p × (number_of x p ≡ s) in
     elim (cases_lt s (first_end x)) [
@@ -82,5 +83,5 @@ stage_forth x s h =
       ]
     ]
 
-pub numbered : (x : Sheet) → Numbered x
+pub numbered : (x : Numbers) → Numbered x
 numbered x = record { stage = stage_forth x; number = λ p h. (number_below x p h, number_back x p h) }

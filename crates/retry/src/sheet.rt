@@ -1,22 +1,132 @@
-// What a retry sheet holds. Its methods are in the modules below.
-ghost use Rattle.std.specs.Prelude.{◌≡◌};
+// A retry sheet answers for its model.
+ghost use Rattle.std.specs.Prelude.{◌≡◌, true, false, MatchOption};
+ghost use Rattle.mdp.specs.Sound.{Sound};
+ghost use Rattle.mdp.specs.Values.{most_of, least_of};
+ghost use Rattle.sink.specs.Sink.{sinked};
 ghost use Rattle.retry.specs.Lawful.{is_lawful};
+ghost use Rattle.retry.specs.Sheet.{Numbered, retried};
+ghost use Rattle.retry.specs.SheetA.{numbers_a};
+ghost use Rattle.retry.specs.Retried;
 
-mod laws;
-mod making;
-mod source;
-mod stages;
+use crate::lawful::Lawful;
+use crate::numbers::Numbers;
+use crate::stage::Stage;
+use mdp::Source;
+use sink::Sink;
+use std::marker::Model;
 
-pub use making::sheet_a;
-
-// Of `denominator` sendings `request` lose the request and `receipt` the receipt. Whether the sheet is lawful is worked out once.
+// Whether the numbers are lawful is worked out once. A sheet of unlawful ones has no states.
 #[derive(Clone, Copy)]
 pub struct Sheet {
-    events: u32,
-    resends: u32,
-    denominator: u32,
-    request: u32,
-    receipt: u32,
-    lawful: bool,
-    ghost limits: { lawful ≡ is_lawful events resends denominator request receipt },
+    numbers: Result<Lawful, Numbers>,
+}
+
+impl Model for Sheet {
+    ghost use Rattle.std.specs.Prelude.{◌≡◌, false};
+    ghost use Rattle.std.proofs.Common.{ap};
+    ghost use Rattle.std.specs.Result.{ForErr};
+    ghost use Rattle.retry.specs.Lawful.{is_lawful};
+    ghost use Rattle.retry.specs.declared.numbers.Numbers.{Numbers};
+    ghost use Rattle.retry.specs.Sorted.{numbers_in, sorted, sorted-numbers_in};
+
+    ghost Value = { Numbers };
+
+    ghost view = { λ x. numbers_in x.numbers };
+
+    ghost invariant = { λ x. ForErr x.numbers (λ n. is_lawful n ≡ false) };
+
+    ghost inverse = { λ n. record { numbers = sorted n } };
+
+    ghost inverse_ok = { λ x h. ap (λ r. record { numbers = r }) (sorted-numbers_in x.numbers h) };
+}
+
+impl Sheet {
+    #[tactic(auto, using(crate::specs::Numbering::numbered))]
+    pub fn new(numbers: Numbers) -> Self
+        ensures numbers { result ≡ numbers }
+        ensures numbered { Numbered result }
+    {
+        Sheet {
+            numbers: Lawful::try_from(numbers),
+        }
+    }
+
+    // The sheet with its ends staying put: what programs ask. A lawful one is sound.
+    #[tactic(auto, using(crate::specs::Retried::sound_once_sinked))]
+    pub fn under_sink(self) -> Sink<Sheet>
+        ensures below { result.below ≡ self }
+        ensures sound { is_lawful self ≡ true → Sound (sinked (retried self)) }
+    {
+        Sink::new(self)
+    }
+
+    fn lawful(&self) -> Option<Lawful>
+        ensures { MatchOption result (is_lawful self.now ≡ false) (λ x. x.numbers ≡ self.now) }
+    {
+        self.numbers.ok()
+    }
+}
+
+// Sheet A: one event and one resend; of ten sendings one loses the request, and two lose the receipt.
+#[tactic(auto, using(crate::proofs::ValuesOfA::most_of_a, crate::proofs::ValuesOfA::least_of_a))]
+pub fn sheet_a() -> Sheet
+    ensures sheet { result ≡ numbers_a }
+    ensures most { most_of (sinked (retried result)) 2 0 ≡ 18 }
+    ensures least { least_of (sinked (retried result)) 2 0 ≡ 0 }
+{
+    Sheet::new(Numbers {
+        events: 1,
+        resends: 1,
+        denominator: 10,
+        request: 1,
+        receipt: 2,
+    })
+}
+
+impl Source for Sheet {
+    const LETTER: u8 = b'R';
+
+    ghost LETTER = { 82 };
+
+    ghost meaning = { retried };
+
+    ghost bounded = { λ x. Retried.bounded x };
+
+    fn states(&self) -> u32 {
+        match self.lawful() {
+            Some(sheet) => sheet.states(),
+            None => 0,
+        }
+    }
+
+    fn denominator(&self) -> u32 {
+        match self.lawful() {
+            Some(sheet) => sheet.denominator(),
+            None => 0,
+        }
+    }
+
+    fn is_goal(&self, s: u32) -> bool {
+        match self.lawful() {
+            Some(sheet) => sheet.number_of(Stage::CountedTwice) == s as u64,
+            None => false,
+        }
+    }
+
+    fn choices(&self, s: u32) -> u32 {
+        match self.lawful() {
+            Some(sheet) => sheet.stage_of(s).map_or(0, Stage::choices),
+            None => 0,
+        }
+    }
+
+    fn weight(&self, s: u32, c: u32, t: u32) -> u32 {
+        match self.lawful() {
+            Some(sheet) => match sheet.stage_of(s) {
+                Some(stage) => sheet.given(stage, c, t),
+                None => 0,
+            },
+            None => 0,
+        }
+    }
 }
