@@ -7,7 +7,7 @@ use crate::numbers::Numbers;
 use crate::stage::Stage;
 
 #[derive(Clone, Copy)]
-pub struct Lawful {
+pub(crate) struct Lawful {
     numbers: Numbers,
     ghost within: { is_lawful numbers ≡ true },
 }
@@ -27,29 +27,29 @@ impl TryFrom<Numbers> for Lawful {
 }
 
 impl Lawful {
-    pub(crate) fn denominator(&self) -> u32
-        ensures { result ≡ self.now.numbers.denominator }
+    pub(crate) fn denominator(self) -> u32
+        ensures { result ≡ self.numbers.denominator }
     {
         self.numbers.denominator
     }
 
     // The number of the first end; the states in which an event is being sent are below it.
-    fn first_end(&self) -> u32
-        ensures value { result ≡ first_end self.now.numbers }
+    fn first_end(self) -> u32
+        ensures value { result ≡ first_end self.numbers }
         ensures small { result + 3 ≤ 256 }
     {
         2 * self.numbers.events * (self.numbers.resends + 1)
     }
 
-    pub(crate) fn states(&self) -> u32
-        ensures { result ≡ first_end self.now.numbers + 3 }
+    pub(crate) fn states(self) -> u32
+        ensures { result ≡ first_end self.numbers + 3 }
     {
         self.first_end() + 3
     }
 
     // In 64 bits every stage has its number, even one that the sheet does not have.
-    pub(crate) fn number_of(&self, stage: Stage) -> u64
-        ensures { result ≡ number_of self.now.numbers stage }
+    pub(crate) fn number_of(self, stage: Stage) -> u64
+        ensures { result ≡ number_of self.numbers stage }
     {
         match stage {
             Stage::Sending {
@@ -67,29 +67,26 @@ impl Lawful {
     }
 
     // The stage of a state; none past the states.
-    pub(crate) fn stage_of(&self, s: u32) -> Option<Stage>
-        ensures { SomeIff result (s < first_end self.now.numbers + 3) (stage_of self.now.numbers s) }
+    pub(crate) fn stage_of(self, s: u32) -> Option<Stage>
+        ensures { SomeIff result (s < first_end self.numbers + 3) (stage_of self.numbers s) }
     {
-        let end = self.first_end();
-        if s < end {
-            let tries = self.numbers.resends + 1;
-            return Some(Stage::Sending {
+        let tries = self.numbers.resends + 1;
+        match s.checked_sub(self.first_end()) {
+            None => Some(Stage::Sending {
                 event: s / 2 / tries,
                 resends: s / 2 % tries,
                 applied: s % 2 == 1,
-            });
-        }
-        match s - end {
-            0 => Some(Stage::Done),
-            1 => Some(Stage::GaveUp),
-            2 => Some(Stage::CountedTwice),
-            _ => None,
+            }),
+            Some(0) => Some(Stage::Done),
+            Some(1) => Some(Stage::GaveUp),
+            Some(2) => Some(Stage::CountedTwice),
+            Some(_) => None,
         }
     }
 
     // One resend more, or gave up after the last.
-    fn again(&self, event: u32, resends: u32, applied: bool) -> Stage
-        ensures { result ≡ again self.now.numbers event resends applied }
+    fn again(self, event: u32, resends: u32, applied: bool) -> Stage
+        ensures { result ≡ again self.numbers event resends applied }
     {
         if resends < self.numbers.resends {
             Stage::Sending {
@@ -103,8 +100,8 @@ impl Lawful {
     }
 
     // The next event, or done after the last.
-    fn next(&self, event: u32) -> Stage
-        ensures { result ≡ next self.now.numbers event }
+    fn next(self, event: u32) -> Stage
+        ensures { result ≡ next self.numbers event }
     {
         if event < self.numbers.events - 1 {
             Stage::Sending {
@@ -118,9 +115,8 @@ impl Lawful {
     }
 
     // The part of a weight given to `stage` that state `t` gets: all, or nothing.
-    fn give(&self, weight: u32, stage: Stage, t: u32) -> u32
-        ensures value { result ≡ (if number_of self.now.numbers stage == t then weight else 0) }
-        ensures most { result ≤ weight }
+    fn give(self, weight: u32, stage: Stage, t: u32) -> u32
+        ensures { result ≡ (if number_of self.numbers stage == t then weight else 0) }
     {
         if self.number_of(stage) == t as u64 {
             weight
@@ -130,8 +126,8 @@ impl Lawful {
     }
 
     // What choice `c` of a stage gives to state `t`.
-    pub(crate) fn given(&self, stage: Stage, c: u32, t: u32) -> u32
-        ensures { result ≡ given self.now.numbers (gifts self.now.numbers stage c) t }
+    pub(crate) fn given(self, stage: Stage, c: u32, t: u32) -> u32
+        ensures { result ≡ given self.numbers (gifts self.numbers stage c) t }
     {
         let Numbers {
             denominator,
@@ -141,27 +137,28 @@ impl Lawful {
         } = self.numbers;
         let lost = request + receipt;
         let heard = denominator - lost;
-        match stage {
-            Stage::Sending {
-                event,
-                resends,
-                applied,
-            } => match (applied, c) {
-                (false, 0) => {
-                    self.give(request, self.again(event, resends, false), t)
-                        + self.give(receipt, self.again(event, resends, true), t)
-                        + self.give(heard, self.next(event), t)
-                }
-                (true, 0) => {
-                    self.give(lost, self.again(event, resends, true), t)
-                        + self.give(heard, self.next(event), t)
-                }
-                (true, 1) => {
-                    self.give(request, self.again(event, resends, true), t)
-                        + self.give(denominator - request, Stage::CountedTwice, t)
-                }
-                _ => 0,
-            },
+        let Stage::Sending {
+            event,
+            resends,
+            applied,
+        } = stage
+        else {
+            return 0;
+        };
+        match (applied, c) {
+            (false, 0) => {
+                self.give(request, self.again(event, resends, false), t)
+                    + self.give(receipt, self.again(event, resends, true), t)
+                    + self.give(heard, self.next(event), t)
+            }
+            (true, 0) => {
+                self.give(lost, self.again(event, resends, true), t)
+                    + self.give(heard, self.next(event), t)
+            }
+            (true, 1) => {
+                self.give(request, self.again(event, resends, true), t)
+                    + self.give(denominator - request, Stage::CountedTwice, t)
+            }
             _ => 0,
         }
     }

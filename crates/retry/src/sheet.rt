@@ -93,40 +93,30 @@ impl Source for Sheet {
     ghost bounded = { λ x. Retried.bounded x };
 
     fn states(&self) -> u32 {
-        match self.lawful() {
-            Some(sheet) => sheet.states(),
-            None => 0,
-        }
+        self.lawful().map_or(0, Lawful::states)
     }
 
     fn denominator(&self) -> u32 {
-        match self.lawful() {
-            Some(sheet) => sheet.denominator(),
-            None => 0,
-        }
+        self.lawful().map_or(0, Lawful::denominator)
     }
 
     fn is_goal(&self, s: u32) -> bool {
-        match self.lawful() {
-            Some(sheet) => sheet.number_of(Stage::CountedTwice) == s as u64,
-            None => false,
-        }
+        self.lawful()
+            .is_some_and(|sheet| sheet.number_of(Stage::CountedTwice) == s as u64)
     }
 
     fn choices(&self, s: u32) -> u32 {
-        match self.lawful() {
-            Some(sheet) => sheet.stage_of(s).map_or(0, Stage::choices),
-            None => 0,
-        }
+        self.lawful()
+            .and_then(|sheet| sheet.stage_of(s))
+            .map_or(0, Stage::choices)
     }
 
     fn weight(&self, s: u32, c: u32, t: u32) -> u32 {
-        match self.lawful() {
-            Some(sheet) => match sheet.stage_of(s) {
-                Some(stage) => sheet.given(stage, c, t),
-                None => 0,
-            },
-            None => 0,
-        }
+        let Some(sheet) = self.lawful() else {
+            return 0;
+        };
+        sheet
+            .stage_of(s)
+            .map_or(0, |stage| sheet.given(stage, c, t))
     }
 }

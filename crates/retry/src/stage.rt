@@ -3,7 +3,7 @@ ghost use Rattle.std.specs.Prelude.{◌≡◌};
 
 // Which event it sends, how often it has sent it again and whether the server has applied it; or one of the three ends.
 #[derive(Clone, Copy)]
-pub enum Stage {
+pub(crate) enum Stage {
     Sending {
         event: u32,
         resends: u32,
