@@ -1,1 +1,3 @@
+pub mod Numbering
+pub mod Soundness
 pub mod ValuesOfA

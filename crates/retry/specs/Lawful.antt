@@ -1,18 +1,32 @@
--- Which numbers make a lawful retry sheet.
-use Rattle.std.specs.Prelude.{ℕ, ◌+◌, ◌*◌, Bool, ◌&&◌, nat_le}
+-- What a sheet keeps: its numbers as lawful ones, or as they are.
+use Rattle.std.specs.Prelude.{◌≡◌, Bool, true, false, Result, Ok, Err, refl}
+use Rattle.std.specs.Result.{ForErr}
+use Rattle.std.proofs.Common.{ap}
+use mathlib.Core.Bool.{Bool-set}
 use Rattle.retry.specs.declared.numbers.Numbers.{Numbers}
+use Rattle.retry.specs.declared.lawful.Lawful.{Lawful}
+use Rattle.retry.specs.Numbers.{is_lawful}
 
--- the states in which an event is being sent come first; the three ends follow
-abbrev pub first_end : Numbers → ℕ
-first_end x = 2 * x.events * (x.resends + 1)
+abbrev pub numbers_in : Result Lawful Numbers → Numbers
+numbers_in (Ok x) = x.numbers
+numbers_in (Err n) = n
 
--- some events and a denominator; no number too large; no more weight lost than there is; and no more than 256 states, with the three ends
-abbrev pub is_lawful : Numbers → Bool
-is_lawful x =
-    nat_le 1 x.events
-    && nat_le x.events 255
-    && nat_le x.resends 255
-    && nat_le 1 x.denominator
-    && nat_le x.denominator 65535
-    && nat_le (x.request + x.receipt) x.denominator
-    && nat_le (first_end x + 3) 256
+abbrev judged : (n : Numbers) (b : Bool) → is_lawful n ≡ b → Result Lawful Numbers
+judged n true e = Ok (record { numbers = n; within = e })
+judged n false e = Err n
+
+-- what Rust's function of this name returns
+abbrev pub try_from : Numbers → Result Lawful Numbers
+try_from n = judged n (is_lawful n) refl
+
+judged-lawful : (n : Numbers) (b : Bool) (e : is_lawful n ≡ b) (h : is_lawful n ≡ true) → judged n b e ≡ Ok (record { numbers = n; within = h })
+judged-lawful n true e h = ap (λ w. Ok (record { numbers = n; within = w })) (Bool-set _ _ e h)
+judged-lawful n false e h = absurd (cc)
+
+judged-unlawful : (n : Numbers) (b : Bool) (e : is_lawful n ≡ b) → is_lawful n ≡ false → judged n b e ≡ Err n
+judged-unlawful n true e h = absurd (cc)
+judged-unlawful n false e h = refl
+
+pub try_from-numbers_in : (r : Result Lawful Numbers) → ForErr r (λ n. is_lawful n ≡ false) → try_from (numbers_in r) ≡ r
+try_from-numbers_in (Ok x) h = judged-lawful x.numbers (is_lawful x.numbers) refl x.within
+try_from-numbers_in (Err n) h = judged-unlawful n (is_lawful n) refl (h n refl)

@@ -1,6 +1,6 @@
 // Lawful numbers, and the stages that they give a sheet.
 ghost use Rattle.std.specs.Prelude.{◌≡◌, ◌+◌, ◌<◌, ◌≤◌, true, false, SomeIff, MatchResult, if◌then◌else◌, ◌==◌};
-ghost use Rattle.retry.specs.Lawful.{first_end, is_lawful};
+ghost use Rattle.retry.specs.Numbers.{first_end, is_lawful};
 ghost use Rattle.retry.specs.Sheet.{number_of, stage_of, again, next, gifts, given};
 
 use crate::numbers::Numbers;

@@ -1,6 +1,6 @@
 // The numbers that a retry sheet holds.
 ghost use Rattle.std.specs.Prelude.{◌≡◌};
-ghost use Rattle.retry.specs.Lawful.{is_lawful};
+ghost use Rattle.retry.specs.Numbers.{is_lawful};
 
 // Of `denominator` sendings `request` lose the request and `receipt` the receipt.
 #[derive(Clone, Copy)]

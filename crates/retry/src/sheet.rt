@@ -3,10 +3,10 @@ ghost use Rattle.std.specs.Prelude.{◌≡◌, true, false, MatchOption};
 ghost use Rattle.mdp.specs.Sound.{Sound};
 ghost use Rattle.mdp.specs.Values.{most_of, least_of};
 ghost use Rattle.sink.specs.Sink.{sinked};
-ghost use Rattle.retry.specs.Lawful.{is_lawful};
+ghost use Rattle.retry.specs.Numbers.{is_lawful};
 ghost use Rattle.retry.specs.Sheet.{Numbered, retried};
 ghost use Rattle.retry.specs.SheetA.{numbers_a};
-ghost use Rattle.retry.specs.Retried;
+ghost use Rattle.retry.specs.Bounded.{bounded};
 
 use crate::lawful::Lawful;
 use crate::numbers::Numbers;
@@ -25,9 +25,9 @@ impl Model for Sheet {
     ghost use Rattle.std.specs.Prelude.{◌≡◌, false};
     ghost use Rattle.std.proofs.Common.{ap};
     ghost use Rattle.std.specs.Result.{ForErr};
-    ghost use Rattle.retry.specs.Lawful.{is_lawful};
+    ghost use Rattle.retry.specs.Numbers.{is_lawful};
     ghost use Rattle.retry.specs.declared.numbers.Numbers.{Numbers};
-    ghost use Rattle.retry.specs.Sorted.{numbers_in, sorted, sorted-numbers_in};
+    ghost use Rattle.retry.specs.Lawful.{numbers_in, try_from, try_from-numbers_in};
 
     ghost Value = { Numbers };
 
@@ -35,13 +35,13 @@ impl Model for Sheet {
 
     ghost invariant = { λ x. ForErr x.numbers (λ n. is_lawful n ≡ false) };
 
-    ghost inverse = { λ n. record { numbers = sorted n } };
+    ghost inverse = { λ n. record { numbers = try_from n } };
 
-    ghost inverse_ok = { λ x h. ap (λ r. record { numbers = r }) (sorted-numbers_in x.numbers h) };
+    ghost inverse_ok = { λ x h. ap (λ r. record { numbers = r }) (try_from-numbers_in x.numbers h) };
 }
 
 impl Sheet {
-    #[tactic(auto, using(crate::specs::Numbering::numbered))]
+    #[tactic(auto, using(crate::proofs::Numbering::numbered))]
     pub fn new(numbers: Numbers) -> Self
         ensures numbers { result ≡ numbers }
         ensures numbered { Numbered result }
@@ -52,7 +52,7 @@ impl Sheet {
     }
 
     // The sheet with its ends staying put: what programs ask. A lawful one is sound.
-    #[tactic(auto, using(crate::specs::Retried::sound_once_sinked))]
+    #[tactic(auto, using(crate::proofs::Soundness::sound_once_sinked))]
     pub fn under_sink(self) -> Sink<Sheet>
         ensures below { result.below ≡ self }
         ensures sound { is_lawful self ≡ true → Sound (sinked (retried self)) }
@@ -90,7 +90,7 @@ impl Source for Sheet {
 
     ghost meaning = { retried };
 
-    ghost bounded = { λ x. Retried.bounded x };
+    ghost bounded = { bounded };
 
     fn states(&self) -> u32 {
         self.lawful().map_or(0, Lawful::states)
