@@ -1,7 +1,7 @@
 -- The numbering of the stages is one to one.
 use Rattle.std.specs.Prelude.{◌≡◌, ℕ, ◌+◌, ◌*◌, ◌/◌, ◌%◌, ◌<◌, ◌≤◌, Bool, true, false, cond, ◌==◌, nat_lt, refl}
 use Rattle.std.proofs.Common.{◌∙◌, div-add-mod', mod-lt, arith}
-use Rattle.std.proofs.lemmas.Bool.{lt-ltb, ltb-true, ltb-false, cond-true, cond_both}
+use Rattle.std.proofs.lemmas.Bool.{lt-ltb, ltb-false, cond-true, cond_both}
 use Rattle.std.proofs.lemmas.Bool.Decides.{nat_tests}
 use Rattle.std.proofs.lemmas.Nat.{mul-add-lt, div-mul-add, mod-mul-add}
 use Rattle.retry.specs.declared.stage.Stage.{Stage}
@@ -45,8 +45,8 @@ number_of-stage_of : (x : Numbers) (s : ℕ) → s < first_end x + 3 → number_
 number_of-stage_of x s l =
     cond_both (nat_lt s (first_end x)) _ _ (λ p. number_of x p ≡ s) (λ e. number_of-sending x s)
     (λ e. let past = ltb-false s (first_end x) e in
-      cond_both (s == first_end x) _ _ (λ p. number_of x p ≡ s) (λ f. grind (arith, nat_tests))
-      (λ f. cond_both (s == first_end x + 1) _ _ (λ p. number_of x p ≡ s) (λ g. grind (arith, nat_tests)) (λ g. grind (arith, nat_tests))))
+    cond_both (s == first_end x) _ _ (λ p. number_of x p ≡ s) (λ f. grind (arith, nat_tests))
+    (λ f. cond_both (s == first_end x + 1) _ _ (λ p. number_of x p ≡ s) (λ g. grind (arith, nat_tests)) (λ g. grind (arith, nat_tests))))
 
 pub numbered : (x : Numbers) → Numbered x
 numbered x = record {

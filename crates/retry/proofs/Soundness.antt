@@ -1,6 +1,6 @@
 -- A lawful sheet is sound under the sink layer.
-use Rattle.std.specs.Prelude.{◌≡◌, ℕ, ◌+◌, ◌<◌, ◌≤◌, max, Bool, true, false, cond, List, [], ◌∷◌, ◌==◌, nat_lt, refl}
-use Rattle.std.proofs.Common.{sym, ◌∙◌, ap, inl, inr, arith, rules}
+use Rattle.std.specs.Prelude.{◌≡◌, ℕ, ◌+◌, ◌<◌, ◌≤◌, max, true, false, cond, List, [], ◌∷◌, ◌==◌, nat_lt, refl}
+use Rattle.std.proofs.Common.{sym, ◌∙◌, ap, inl, inr, arith}
 use Rattle.std.proofs.lemmas.Bool.{lt-ltb, cases_eq, cond-true, cond_both}
 use Rattle.std.proofs.lemmas.Bool.Decides.{nat_tests}
 use Rattle.mdp.specs.Sums.{sum}
@@ -10,7 +10,7 @@ use Rattle.retry.specs.declared.stage.Stage.{Stage}
 use Rattle.retry.specs.declared.stage.Stage.TheVariants.{Sending, Done, GaveUp, CountedTwice}
 use Rattle.retry.specs.declared.numbers.Numbers.{Numbers}
 use Rattle.retry.specs.Numbers.{first_end, is_lawful}
-use Rattle.retry.specs.Sheet.{number_of, stage_of, Proper, choices_at, Gift, gifts, given, states_of, retried}
+use Rattle.retry.specs.Sheet.{number_of, stage_of, choices_at, Gift, gifts, given, states_of, retried}
 use Rattle.retry.specs.Bounded.{AllProper, number_of-below, stage_of-proper, gifts-proper}
 
 -- the limits that soundness rests on
@@ -19,12 +19,6 @@ few_states x h = grind (arith, nat_tests)
 
 not_all_lost : (x : Numbers) → is_lawful x ≡ true → x.request + x.receipt ≤ x.denominator
 not_all_lost x h = grind (arith, nat_tests)
-
-some_denominator : (x : Numbers) → is_lawful x ≡ true → 1 ≤ x.denominator
-some_denominator x h = grind (arith, nat_tests)
-
-few_denominator : (x : Numbers) → is_lawful x ≡ true → x.denominator ≤ 65535
-few_denominator x h = grind (arith, nat_tests)
 
 abbrev total : List Gift → ℕ
 total [] = 0
@@ -69,10 +63,10 @@ sound_once_sinked x h =
     let denominator = cond-true (is_lawful x) x.denominator 0 h in
     let each = sum_le (states_of x) (λ s. max 1 ((retried x).choices s)) (λ s. 2) (λ s l. cond_both (nat_lt s (states_of x)) _ _ (λ n. max 1 n ≤ 2) (λ e. omega (arith, choices-two (stage_of x s))) (λ e. omega arith)) in
     record {
-      some_states = omega (arith, states);
-      few_states = omega (arith, states, few_states x h);
-      some_denominator = omega (arith, denominator, some_denominator x h);
-      few_denominator = omega (arith, denominator, few_denominator x h);
+      some_states = grind (arith, nat_tests);
+      few_states = grind (arith, nat_tests);
+      some_denominator = grind (arith, nat_tests);
+      few_denominator = grind (arith, nat_tests);
       few_choices = omega (arith, states, few_states x h, each, sum_const (states_of x) 2);
       full = λ s c l k. full x s c h l k ∙ sym denominator;
     }

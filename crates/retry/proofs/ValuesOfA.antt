@@ -1,5 +1,5 @@
 -- The values of sheet A, by computation.
-use Rattle.std.proofs.Common.{◌≡◌, ℕ, refl}
+use Rattle.std.proofs.Common.{◌≡◌, refl}
 use Rattle.mdp.specs.Sums.{sum, best}
 use Rattle.mdp.specs.Values.{expect_to, value_of, most_of, least_of}
 use Rattle.sink.specs.Sink.{sinked}

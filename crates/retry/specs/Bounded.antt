@@ -1,6 +1,6 @@
 -- A sheet gives nothing outside itself. An impl can cite lemmas of specs/ alone; nobody has to read these to believe a contract.
 use Rattle.std.specs.Prelude.{◌≡◌, ℕ, ◌+◌, ◌*◌, ◌/◌, ◌%◌, ◌<◌, ◌≤◌, Bool, true, false, if◌then◌else◌, ◌&&◌, List, [], ◌∷◌, ◌==◌, nat_lt, refl}
-use Rattle.std.proofs.Common.{◌∙◌, ap, mod-lt, div-lt_iff_lt-mul, arith, rules}
+use Rattle.std.proofs.Common.{ap, mod-lt, div-lt_iff_lt-mul, arith}
 use Rattle.std.proofs.lemmas.Bool.{ne_eqb, ltb-true, le-ltb, cond-false, cond_both}
 use Rattle.std.proofs.lemmas.Bool.Decides.{nat_tests}
 use Rattle.std.proofs.lemmas.Nat.{mul-add-lt}
@@ -9,7 +9,7 @@ use Rattle.retry.specs.declared.stage.Stage.{Stage}
 use Rattle.retry.specs.declared.stage.Stage.TheVariants.{Sending, Done, GaveUp, CountedTwice}
 use Rattle.retry.specs.declared.numbers.Numbers.{Numbers}
 use Rattle.retry.specs.Numbers.{first_end, is_lawful}
-use Rattle.retry.specs.Sheet.{number_of, stage_of, Proper, again, next, choices_at, Gift, unapplied, remembered, forgotten, gifts, given, states_of, retried}
+use Rattle.retry.specs.Sheet.{number_of, stage_of, Proper, again, next, choices_at, Gift, gifts, given, states_of, retried}
 
 pub number_of-below : (x : Numbers) (p : Stage) → Proper x p → number_of x p < first_end x + 3
 number_of-below x (Sending i j true) h = omega (arith, mul-add-lt i (x.resends + 1) j x.events h.0 (omega arith))
@@ -86,7 +86,7 @@ bounded x =
       rows = λ s l. cond-false (nat_lt s (states_of x)) _ _ (le-ltb s (states_of x) l);
       past = λ s c t l. none_past (nat_lt s (states_of x)) _ (choices_at (stage_of x s)) c l (λ k. ap (λ gs. given x gs t) (gifts-past x (stage_of x s) c k));
       targets = λ s c t l. cond_both (nat_lt s (states_of x)) _ _ (λ w. w ≡ 0)
-        (λ e. given-outside x (gifts x (stage_of x s) c) t (gifts-proper x (stage_of x s) c (stage_of-proper x s))
+          (λ e. given-outside x (gifts x (stage_of x s) c) t (gifts-proper x (stage_of x s) c (stage_of-proper x s))
           (omega (arith, lawful_inside (is_lawful x) (first_end x + 3) s (ltb-true s (states_of x) e))))
-        (λ e. refl);
+          (λ e. refl);
     }

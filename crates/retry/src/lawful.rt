@@ -6,6 +6,7 @@ ghost use Rattle.retry.specs.Sheet.{number_of, stage_of, again, next, gifts, giv
 use crate::numbers::Numbers;
 use crate::stage::Stage;
 
+// Numbers within their limits: a sheet of these has states.
 #[derive(Clone, Copy)]
 pub(crate) struct Lawful {
     numbers: Numbers,
@@ -35,8 +36,7 @@ impl Lawful {
 
     // The number of the first end; the states in which an event is being sent are below it.
     fn first_end(self) -> u32
-        ensures value { result ≡ first_end self.numbers }
-        ensures small { result + 3 ≤ 256 }
+        ensures { result ≡ first_end self.numbers }
     {
         2 * self.numbers.events * (self.numbers.resends + 1)
     }
