@@ -1,7 +1,7 @@
 -- A lawful sheet is sound under the sink layer.
-use Rattle.std.specs.Prelude.{◌≡◌, ℕ, ◌+◌, ◌<◌, ◌≤◌, max, true, false, cond, List, [], ◌∷◌, ◌==◌, nat_lt, refl}
-use Rattle.std.proofs.Common.{sym, ◌∙◌, ap, inl, inr, arith}
-use Rattle.std.proofs.lemmas.Bool.{lt-ltb, cases_eq, cond-true, cond_both}
+use Rattle.std.specs.Prelude.{◌≡◌, ℕ, ◌+◌, ◌*◌, ◌<◌, ◌≤◌, max, true, false, cond, List, [], ◌∷◌, ◌==◌, refl}
+use Rattle.std.proofs.Common.{sym, ◌∙◌, ap, arith}
+use Rattle.std.proofs.lemmas.Bool.{cond-true}
 use Rattle.std.proofs.lemmas.Bool.Decides.{nat_tests}
 use Rattle.mdp.specs.Sums.{sum}
 use Rattle.mdp.proofs.Sums.{sum_le, sum_same, sum_const, sum_zero, sum_add, sum_one}
@@ -10,15 +10,20 @@ use Rattle.retry.specs.declared.stage.Stage.{Stage}
 use Rattle.retry.specs.declared.stage.Stage.TheVariants.{Sending, Done, GaveUp, CountedTwice}
 use Rattle.retry.specs.declared.numbers.Numbers.{Numbers}
 use Rattle.retry.specs.Numbers.{first_end, is_lawful}
-use Rattle.retry.specs.Sheet.{number_of, stage_of, choices_at, Gift, gifts, given, states_of, retried}
-use Rattle.retry.specs.Bounded.{AllProper, number_of-below, stage_of-proper, gifts-proper}
+use Rattle.retry.specs.Sheet.{number_of, stage_of, Proper, choices_at, Gift, gifts, given, states_of, retried}
+use Rattle.retry.specs.Bounded.{number_of-below, stage_of-proper, again-proper, next-proper}
 
--- the limits that soundness rests on
-few_states : (x : Numbers) → is_lawful x ≡ true → first_end x + 3 ≤ 256
-few_states x h = grind (arith, nat_tests)
+-- every gift goes to a stage that the sheet has
+abbrev AllProper : Numbers → List Gift → Type 0
+AllProper x [] = Unit {0}
+AllProper x (g ∷ gs) = Proper x g.target × AllProper x gs
 
-not_all_lost : (x : Numbers) → is_lawful x ≡ true → x.request + x.receipt ≤ x.denominator
-not_all_lost x h = grind (arith, nat_tests)
+gifts-proper : (x : Numbers) (p : Stage) (c : ℕ) → Proper x p → AllProper x (gifts x p c)
+gifts-proper x (Sending i j true) c h = grind (arith, nat_tests, again-proper, next-proper)
+gifts-proper x (Sending i j false) c h = grind (arith, nat_tests, again-proper, next-proper)
+gifts-proper x Done c h = tt
+gifts-proper x GaveUp c h = tt
+gifts-proper x CountedTwice c h = tt
 
 abbrev total : List Gift → ℕ
 total [] = 0
@@ -32,10 +37,9 @@ sum-given x (g ∷ gs) h =
     omega (arith, sum_add (first_end x + 3) (λ t. cond (k == t) g.weight 0) (given x gs), one, sum-given x gs h.1)
 
 -- each of its choices gives away the denominator
-total-gifts : (x : Numbers) (p : Stage) (c : ℕ) → x.request + x.receipt ≤ x.denominator → c < choices_at p → total (gifts x p c) ≡ x.denominator
-total-gifts x (Sending i j false) c h l = let e : c ≡ 0 = omega arith in rw e (omega arith)
-total-gifts x (Sending i j true) c h l =
-    elim (cases_eq c 0) [ inl e ↦ rw e (omega arith) | inr e ↦ let f : c ≡ 1 = omega arith in rw f (omega arith) ]
+total-gifts : (x : Numbers) (p : Stage) (c : ℕ) → is_lawful x ≡ true → c < choices_at p → total (gifts x p c) ≡ x.denominator
+total-gifts x (Sending i j true) c h l = grind (arith, nat_tests)
+total-gifts x (Sending i j false) c h l = grind (arith, nat_tests)
 total-gifts x Done c h l = omega arith
 total-gifts x GaveUp c h l = omega arith
 total-gifts x CountedTwice c h l = omega arith
@@ -50,23 +54,22 @@ choices-two CountedTwice = omega arith
 full : (x : Numbers) (s c : ℕ) → is_lawful x ≡ true → s < states_of x → c < (retried x).choices s → sum (states_of x) ((retried x).weight s c) ≡ x.denominator
 full x s c h l k =
     let p = stage_of x s in
-    let inside = lt-ltb s (states_of x) l in
-    let choices = cond-true (nat_lt s (states_of x)) (choices_at p) 0 inside in
-    sum_same (states_of x) ((retried x).weight s c) (given x (gifts x p c)) (λ t g. cond-true (nat_lt s (states_of x)) (given x (gifts x p c) t) 0 inside)
+    sum_same (states_of x) ((retried x).weight s c) (given x (gifts x p c)) (λ t g. grind (arith, nat_tests))
     ∙ ap (λ n. sum n (given x (gifts x p c))) (cond-true (is_lawful x) (first_end x + 3) 0 h)
     ∙ sum-given x (gifts x p c) (gifts-proper x p c (stage_of-proper x s))
-    ∙ total-gifts x p c (not_all_lost x h) (omega arith)
+    ∙ total-gifts x p c h (grind (arith, nat_tests))
+
+few_choices : (x : Numbers) → sum (states_of x) (λ s. max 1 ((retried x).choices s)) ≤ states_of x * 2
+few_choices x = omega (arith, sum_le (states_of x) (λ s. max 1 ((retried x).choices s)) (λ s. 2) (λ s l. grind (arith, nat_tests, choices-two)), sum_const (states_of x) 2)
 
 pub sound_once_sinked : (x : Numbers) → is_lawful x ≡ true → SoundOnceSinked (retried x)
 sound_once_sinked x h =
-    let states = cond-true (is_lawful x) (first_end x + 3) 0 h in
-    let denominator = cond-true (is_lawful x) x.denominator 0 h in
-    let each = sum_le (states_of x) (λ s. max 1 ((retried x).choices s)) (λ s. 2) (λ s l. cond_both (nat_lt s (states_of x)) _ _ (λ n. max 1 n ≤ 2) (λ e. omega (arith, choices-two (stage_of x s))) (λ e. omega arith)) in
+    let few : states_of x ≤ 256 = grind (arith, nat_tests) in
     record {
       some_states = grind (arith, nat_tests);
-      few_states = grind (arith, nat_tests);
+      few_states = few;
       some_denominator = grind (arith, nat_tests);
       few_denominator = grind (arith, nat_tests);
-      few_choices = omega (arith, states, few_states x h, each, sum_const (states_of x) 2);
-      full = λ s c l k. full x s c h l k ∙ sym denominator;
+      few_choices = omega (arith, few_choices x);
+      full = λ s c l k. full x s c h l k ∙ sym (cond-true (is_lawful x) x.denominator 0 h);
     }
