@@ -1,5 +1,5 @@
 -- A lawful sheet is sound under the sink layer.
-use Rattle.std.specs.Prelude.{◌≡◌, ℕ, ◌+◌, ◌*◌, ◌<◌, ◌≤◌, max, true, false, cond, List, [], ◌∷◌, ◌==◌, refl}
+use Rattle.std.specs.Prelude.{◌≡◌, ℕ, ◌+◌, ◌*◌, ◌<◌, ◌≤◌, max, true, false, cond, List, [], ◌∷◌, ◌==◌, IsTrue, refl}
 use Rattle.std.proofs.Common.{sym, ◌∙◌, ap, arith}
 use Rattle.std.proofs.lemmas.Bool.{cond-true}
 use Rattle.std.proofs.lemmas.Bool.Decides.{nat_tests}
@@ -37,7 +37,7 @@ sum-given x (g ∷ gs) h =
     omega (arith, sum_add (first_end x + 3) (λ t. cond (k == t) g.weight 0) (given x gs), one, sum-given x gs h.1)
 
 -- each of its choices gives away the denominator
-total-gifts : (x : Numbers) (p : Stage) (c : ℕ) → is_lawful x ≡ true → c < choices_at p → total (gifts x p c) ≡ x.denominator
+total-gifts : (x : Numbers) (p : Stage) (c : ℕ) → IsTrue (is_lawful x) → c < choices_at p → total (gifts x p c) ≡ x.denominator
 total-gifts x (Sending i j true) c h l = grind (arith, nat_tests)
 total-gifts x (Sending i j false) c h l = grind (arith, nat_tests)
 total-gifts x Done c h l = omega arith
@@ -51,7 +51,7 @@ choices-two Done = omega arith
 choices-two GaveUp = omega arith
 choices-two CountedTwice = omega arith
 
-full : (x : Numbers) (s c : ℕ) → is_lawful x ≡ true → s < states_of x → c < (retried x).choices s → sum (states_of x) ((retried x).weight s c) ≡ x.denominator
+full : (x : Numbers) (s c : ℕ) → IsTrue (is_lawful x) → s < states_of x → c < (retried x).choices s → sum (states_of x) ((retried x).weight s c) ≡ x.denominator
 full x s c h l k =
     let p = stage_of x s in
     sum_same (states_of x) ((retried x).weight s c) (given x (gifts x p c)) (λ t g. grind (arith, nat_tests))
@@ -62,7 +62,7 @@ full x s c h l k =
 few_choices : (x : Numbers) → sum (states_of x) (λ s. max 1 ((retried x).choices s)) ≤ states_of x * 2
 few_choices x = omega (arith, sum_le (states_of x) (λ s. max 1 ((retried x).choices s)) (λ s. 2) (λ s l. grind (arith, nat_tests, choices-two)), sum_const (states_of x) 2)
 
-pub sound_once_sinked : (x : Numbers) → is_lawful x ≡ true → SoundOnceSinked (retried x)
+pub sound_once_sinked : (x : Numbers) → IsTrue (is_lawful x) → SoundOnceSinked (retried x)
 sound_once_sinked x h =
     let few : states_of x ≤ 256 = grind (arith, nat_tests) in
     record {

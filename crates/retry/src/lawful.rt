@@ -1,5 +1,5 @@
 // Lawful numbers, and the stages that they give a sheet.
-ghost use Rattle.std.specs.Prelude.{◌≡◌, ◌+◌, ◌<◌, ◌≤◌, true, false, SomeIff, MatchResult, if◌then◌else◌, ◌==◌};
+ghost use Rattle.std.specs.Prelude.{◌≡◌, ◌+◌, ◌<◌, if◌then◌else◌, ◌==◌, IsTrue, IsFalse, SomeIff, MatchResult};
 ghost use Rattle.retry.specs.Numbers.{first_end, is_lawful};
 ghost use Rattle.retry.specs.Sheet.{number_of, stage_of, again, next, gifts, given};
 
@@ -10,13 +10,13 @@ use crate::stage::Stage;
 #[derive(Clone, Copy)]
 pub(crate) struct Lawful {
     numbers: Numbers,
-    ghost within: { is_lawful numbers ≡ true },
+    ghost lawful: { IsTrue (is_lawful numbers) },
 }
 
 impl TryFrom<Numbers> for Lawful {
     type Error = Numbers;
 
-    ghost try_from_gives = { λ numbers r. MatchResult r (λ x. x.numbers ≡ numbers) (λ n. (n ≡ numbers) × (is_lawful n ≡ false)) };
+    ghost try_from_gives = { λ numbers r. MatchResult r (λ x. x.numbers ≡ numbers) (λ n. (n ≡ numbers) × IsFalse (is_lawful n)) };
 
     fn try_from(numbers: Numbers) -> Result<Lawful, Numbers> {
         if numbers.is_lawful() {

@@ -1,5 +1,5 @@
 // A retry sheet answers for its model.
-ghost use Rattle.std.specs.Prelude.{◌≡◌, true, false, MatchOption};
+ghost use Rattle.std.specs.Prelude.{◌≡◌, IsTrue, IsFalse, MatchOption};
 ghost use Rattle.mdp.specs.Sound.{Sound};
 ghost use Rattle.mdp.specs.Values.{most_of, least_of};
 ghost use Rattle.sink.specs.Sink.{sinked};
@@ -22,7 +22,7 @@ pub struct Sheet {
 }
 
 impl Model for Sheet {
-    ghost use Rattle.std.specs.Prelude.{◌≡◌, false};
+    ghost use Rattle.std.specs.Prelude.{IsFalse};
     ghost use Rattle.std.proofs.Common.{ap};
     ghost use Rattle.std.specs.Result.{ForErr};
     ghost use Rattle.retry.specs.Numbers.{is_lawful};
@@ -33,7 +33,7 @@ impl Model for Sheet {
 
     ghost view = { λ x. numbers_in x.numbers };
 
-    ghost invariant = { λ x. ForErr x.numbers (λ n. is_lawful n ≡ false) };
+    ghost invariant = { λ x. ForErr x.numbers (λ n. IsFalse (is_lawful n)) };
 
     ghost inverse = { λ n. record { numbers = try_from n } };
 
@@ -55,13 +55,14 @@ impl Sheet {
     #[tactic(auto, using(crate::proofs::Soundness::sound_once_sinked))]
     pub fn under_sink(self) -> Sink<Sheet>
         ensures below { result.below ≡ self }
-        ensures sound { is_lawful self ≡ true → Sound (sinked (retried self)) }
+        ensures sound { IsTrue (is_lawful self) → Sound (sinked (retried self)) }
     {
         Sink::new(self)
     }
 
+    // Its numbers, if they are lawful.
     fn lawful(&self) -> Option<Lawful>
-        ensures { MatchOption result (is_lawful self.now ≡ false) (λ x. x.numbers ≡ self.now) }
+        ensures { MatchOption result (IsFalse (is_lawful self.now)) (λ x. x.numbers ≡ self.now) }
     {
         self.numbers.ok()
     }
