@@ -13,7 +13,9 @@ use Rattle.retry.specs.Bounded.{number_of-below, stage_of-proper}
 number_of-stage_of : (x : Numbers) (s : ℕ) → s < first_end x + 3 → number_of x (stage_of x s) ≡ s
 number_of-stage_of x s l = grind (arith, nat_tests)
 
-stage_of-sending : (x : Numbers) (i j : ℕ) (f : Bool) → i < x.events → j < x.resends + 1 → stage_of x (number_of x (Sending i j f)) ≡ Sending i j f
+stage_of-sending :
+    (x : Numbers) (i j : ℕ) (f : Bool) → i < x.events → j < x.resends + 1
+    → stage_of x (number_of x (Sending i j f)) ≡ Sending i j f
 stage_of-sending x i j true h k =
     let n = x.resends + 1 in grind (arith, nat_tests, div-mul-add i n j k, mod-mul-add i n j k, mul-add-lt i n j x.events h k)
 stage_of-sending x i j false h k =

@@ -51,7 +51,9 @@ choices-two Done = omega arith
 choices-two GaveUp = omega arith
 choices-two CountedTwice = omega arith
 
-full : (x : Numbers) (s c : ℕ) → IsTrue (is_lawful x) → s < states_of x → c < (retried x).choices s → sum (states_of x) ((retried x).weight s c) ≡ x.denominator
+full :
+    (x : Numbers) (s c : ℕ) → IsTrue (is_lawful x) → s < states_of x → c < (retried x).choices s
+    → sum (states_of x) ((retried x).weight s c) ≡ x.denominator
 full x s c h l k =
     let p = stage_of x s in
     sum_same (states_of x) ((retried x).weight s c) (given x (gifts x p c)) (λ t g. grind (arith, nat_tests))
@@ -60,7 +62,9 @@ full x s c h l k =
     ∙ total-gifts x p c h (grind (arith, nat_tests))
 
 few_choices : (x : Numbers) → sum (states_of x) (λ s. max 1 ((retried x).choices s)) ≤ states_of x * 2
-few_choices x = omega (arith, sum_le (states_of x) (λ s. max 1 ((retried x).choices s)) (λ s. 2) (λ s l. grind (arith, nat_tests, choices-two)), sum_const (states_of x) 2)
+few_choices x =
+    let each = sum_le (states_of x) (λ s. max 1 ((retried x).choices s)) (λ s. 2) (λ s l. grind (arith, nat_tests, choices-two)) in
+    omega (arith, each, sum_const (states_of x) 2)
 
 pub sound_once_sinked : (x : Numbers) → IsTrue (is_lawful x) → SoundOnceSinked (retried x)
 sound_once_sinked x h =

@@ -19,7 +19,9 @@ judged n false e = Err n
 abbrev pub try_from : Numbers → Result Lawful Numbers
 try_from n = judged n (is_lawful n) refl
 
-judged-lawful : (n : Numbers) (b : Bool) (e : is_lawful n ≡ b) (h : IsTrue (is_lawful n)) → judged n b e ≡ Ok (record { numbers = n; lawful = h })
+judged-lawful :
+    (n : Numbers) (b : Bool) (e : is_lawful n ≡ b) (h : IsTrue (is_lawful n))
+    → judged n b e ≡ Ok (record { numbers = n; lawful = h })
 judged-lawful n true e h = ap (λ w. Ok (record { numbers = n; lawful = w })) (Bool-set _ _ e h)
 judged-lawful n false e h = absurd (cc)
 
