@@ -2,7 +2,7 @@
 use inspection::inspect;
 use mdp::Source;
 use reach::exact_values;
-use retry::{Sheet, sheet_a};
+use retry::{Numbers, Sheet, sheet_a};
 use std::test::Fail;
 
 // State 0 is not applied; state 3 is, after its one resend; 4, 5 and 6 are the ends.
@@ -23,8 +23,19 @@ fn losses_add_up(rt: HostRuntime) {
 
 #[test]
 fn as_many_events_as_fit(rt: HostRuntime) -> Result<(), Fail> {
-    assert!(rt; inspect(&Sheet::new(126, 0, 10, 1, 2).under_sink()).is_ok());
-    match inspect(&Sheet::new(127, 0, 10, 1, 2).under_sink()) {
+    let most = Numbers {
+        events: 126,
+        resends: 0,
+        denominator: 10,
+        request: 1,
+        receipt: 2,
+    };
+    assert!(rt; inspect(&Sheet::new(most).under_sink()).is_ok());
+    let more = Numbers {
+        events: 127,
+        ..most
+    };
+    match inspect(&Sheet::new(more).under_sink()) {
         Ok(()) => Err(Fail::new("127 events are too many")),
         Err(refusal) => {
             assert!(rt; refusal.letter == b'K' && refusal.number() == 6 && refusal.place() == 0);
@@ -35,9 +46,18 @@ fn as_many_events_as_fit(rt: HostRuntime) -> Result<(), Fail> {
 
 #[test]
 fn no_more_lost_than_there_is(rt: HostRuntime) {
-    assert_eq!(rt; Sheet::new(1, 1, 10, 4, 6).denominator(), 10);
-    assert_eq!(rt; Sheet::new(1, 1, 10, 5, 6).denominator(), 0);
-    assert_eq!(rt; Sheet::new(1, 1, 10, 1 << 31, 1 << 31).denominator(), 0);
+    let lost = |request, receipt| {
+        Sheet::new(Numbers {
+            events: 1,
+            resends: 1,
+            denominator: 10,
+            request,
+            receipt,
+        })
+    };
+    assert_eq!(rt; lost(4, 6).denominator(), 10);
+    assert_eq!(rt; lost(5, 6).denominator(), 0);
+    assert_eq!(rt; lost(1 << 31, 1 << 31).denominator(), 0);
 }
 
 #[test]

@@ -5,7 +5,7 @@ use inspection::{Unsound, inspect};
 use mdp::Source;
 use reach::Reach;
 use requests::{BadLine, Request};
-use retry::Sheet;
+use retry::{Numbers, Sheet};
 use rows::Row;
 use std::io;
 
@@ -52,13 +52,13 @@ fn print_limits(rt: &impl Print, unsound: &Unsound) -> io::Result<()> {
 
 fn answer(rt: &impl Print, request: &Request) -> io::Result<()> {
     println!(rt; "{request}")?;
-    let sheet = Sheet::new(
-        request.events,
-        request.resends,
-        request.denominator,
-        request.request,
-        request.receipt,
-    );
+    let sheet = Sheet::new(Numbers {
+        events: request.events,
+        resends: request.resends,
+        denominator: request.denominator,
+        request: request.request,
+        receipt: request.receipt,
+    });
     let source = sheet.under_sink();
     match inspect(&source) {
         Ok(()) => print_table(rt, &source, request.steps),

@@ -1,1 +1,3 @@
-mod SheetA
+pub mod Numbering
+pub mod Soundness
+pub mod ValuesOfA

@@ -1,7 +1,5 @@
-pub mod Lawful
+pub mod Numbers
 pub mod Sheet
 pub mod SheetA
-pub mod Limits
-pub mod Numbering
-pub mod Giving
-pub mod Retried
+pub mod Lawful
+pub mod Bounded

@@ -1,6 +1,9 @@
-// Where a sender stands: which event it sends, how often it has sent it again and whether the server has applied it; or one of the three ends.
+// Where a sender stands.
+ghost use Rattle.std.specs.Prelude.{◌≡◌};
+
+// Which event it sends, how often it has sent it again and whether the server has applied it; or one of the three ends.
 #[derive(Clone, Copy)]
-pub enum Stage {
+pub(crate) enum Stage {
     Sending {
         event: u32,
         resends: u32,
@@ -9,4 +12,18 @@ pub enum Stage {
     Done,
     GaveUp,
     CountedTwice,
+}
+
+impl Stage {
+    ghost use Rattle.retry.specs.Sheet.{choices_at};
+
+    pub(crate) fn choices(self) -> u32
+        ensures { result ≡ choices_at self }
+    {
+        match self {
+            Stage::Sending { applied: false, .. } => 1,
+            Stage::Sending { applied: true, .. } => 2,
+            _ => 0,
+        }
+    }
 }
