@@ -1,8 +1,14 @@
 -- A record written into a buffer.
 use Rattle.std.specs.Prelude.{◌≡◌, ℕ, ◌+◌, ◌/◌, ◌%◌, ◌<◌, ◌≤◌, true, List, ◌++◌, length, take, drop, Some, None, Option}
+use Rattle.std.specs.Borrow.{Bor}
+use Rattle.std.specs.List.{flat_map}
 use Rattle.records.specs.declared.content.Record.{Record}
 use Rattle.records.specs.Encode.{encode, Fits}
 use Rattle.records.specs.Held.{content, whole}
+
+-- the bytes of some slices, one behind the other
+abbrev pub joined : List (Bor (List ℕ)) → List ℕ
+joined parts = flat_map (λ p. p.now) parts
 
 -- ys in the place of what stood at `at`
 abbrev pub placed : List ℕ → ℕ → List ℕ → List ℕ
