@@ -1,7 +1,6 @@
-use Rattle.std.proofs.Common.{length, subst, ap, sym, ◌∙◌, arith, rules}
+use Rattle.std.proofs.Common.{arith}
 use Rattle.std.proofs.lemmas.List.{take_all}
-use Rattle.encoding.specs.Placed.{joined}
-use Rattle.encoding.proofs.Joining.{Filled, filled_whole, filled_more, joined_more, joined_fits}
+use Rattle.encoding.proofs.Joining.{filled_whole, filled_more, joined_more, joined_fits}
 use Rattle.encoding.proofs.putting.put_parts.Goals as goal
 
 pub slice_bounds-copy_from_slice-end : goal.slice_bounds-copy_from_slice-end

@@ -1,4 +1,4 @@
-use Rattle.std.proofs.Common.{◌≡◌, length, take}
+use Rattle.std.proofs.Common.{take}
 use Rattle.encoding.specs.Placed.{joined}
 use Rattle.encoding.proofs.Joining.{Filled}
 use Rattle.encoding.proofs.putting.put_parts.Given as goal
