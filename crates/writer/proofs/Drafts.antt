@@ -4,7 +4,7 @@ use Rattle.std.proofs.lemmas.List.{length-append, length-drop, take_at, drop_at,
 use Rattle.std.proofs.lemmas.Bool.{both_ways}
 use Rattle.records.specs.Content.{Content, mark_of}
 use Rattle.records.specs.Encode.{encode, Fits}
-use Rattle.encoding.specs.Placed.{placed}
+use Rattle.std.specs.List.{splice}
 use Rattle.grammar.specs.declared.place.Place.{Place}
 use Rattle.grammar.specs.declared.place.Place.TheVariants.{HandInDue}
 use Rattle.grammar.specs.HandIn.{HandIn}
@@ -31,7 +31,7 @@ module _ (old : List ℕ) (d : Draft) (rs : List Content) (h : Written old d rs)
       let e = ap length h.bytes ∙ length-append (encodes rs) (drop d.len old) ∙ ap (λ k. length (encodes rs) + k) (length-drop d.len old) in
       omega (arith, e, h.ends, h.within)
 
-  pub written_push : (r : Content) → Fits r → d.len + length (encode r) ≤ length d.bytes → allowed d.place (mark_of r) ≡ true → fits d.place r ≡ true → Written old (record { bytes = placed d.bytes d.len (encode r); len = d.len + length (encode r); place = after d.place r }) (rs ++ r ∷ [])
+  pub written_push : (r : Content) → Fits r → d.len + length (encode r) ≤ length d.bytes → allowed d.place (mark_of r) ≡ true → fits d.place r ≡ true → Written old (record { bytes = splice d.bytes d.len (d.len + length (encode r)) (encode r); len = d.len + length (encode r); place = after d.place r }) (rs ++ r ∷ [])
   written_push r f room a o =
       let n = d.len in
       let e = encode r in

@@ -27,14 +27,12 @@ pub struct Writer<'a> {
 fn put_behind(buffer: &mut [u8], written: Reached, item: Record<'_>) -> Result<Reached, WriteFault>
     ensures { PutsBehind buffer.old written item.entry buffer.new result }
 {
-    let place = match written.place.step(item) {
-        Ok(place) => place,
-        Err(misfit) => return Err(WriteFault::of(misfit, written.len)),
-    };
-    match encode(buffer, written.len, item) {
-        Some(len) => Ok(Reached { len, place }),
-        None => Err(WriteFault::NoRoom),
-    }
+    let place = written
+        .place
+        .step(item)
+        .map_err(|misfit| WriteFault::of(misfit, written.len))?;
+    let len = encode(buffer, written.len, item).ok_or(WriteFault::NoRoom)?;
+    Ok(Reached { len, place })
 }
 
 impl<'a> Writer<'a> {
@@ -57,9 +55,7 @@ impl<'a> Writer<'a> {
         ensures named { self.new.buffer.ghost_name ≡ self.old.buffer.ghost_name }
         ensures value { Puts (draft_of self.old) item.entry (draft_of self.new) result }
     {
-        let written = self.reached;
-        let behind = put_behind(self.buffer, written, item)?;
-        self.reached = behind;
+        self.reached = put_behind(self.buffer, self.reached, item)?;
         Ok(())
     }
 
@@ -70,17 +66,11 @@ impl<'a> Writer<'a> {
         self.reached.len
     }
 
-    // Whether the place that was reached is the end.
-    fn is_over(&self) -> bool
-        ensures { Complete (draft_of self.now) result }
-    {
-        self.reached.place.is_over()
-    }
-
     // Whether ZZ is written.
+    #[tactic(auto, using(crate::proofs::Drafts::complete_where_over))]
     pub fn is_complete(&self) -> bool
         ensures { Complete (draft_of self.now) result }
     {
-        self.is_over()
+        self.reached.place.is_over()
     }
 }
