@@ -1,7 +1,7 @@
 // A writer takes a hand-in record by record into a caller's buffer. A record that it refuses leaves all as it was.
-ghost use Rattle.std.specs.Prelude.{◌≡◌, []};
-ghost use Rattle.writer.specs.Draft.{draft_of, Written};
-ghost use Rattle.writer.specs.Answer.{Puts, PutsBehind, Complete};
+ghost use Rattle.std.specs.Prelude.{◌≡◌, [], IfOk, IfErr, OnOk, OnErr};
+ghost use Rattle.writer.specs.Draft.{draft, draft_of, Written};
+ghost use Rattle.writer.specs.Answer.{Takes, Refuses, Complete};
 
 use crate::fault::WriteFault;
 use encoding::encode;
@@ -25,7 +25,9 @@ pub struct Writer<'a> {
 
 // Writes a record behind what is written, and answers how far that is then.
 fn put_behind(buffer: &mut [u8], written: Reached, item: Record<'_>) -> Result<Reached, WriteFault>
-    ensures { PutsBehind buffer.old written item.entry buffer.new result }
+    ensures ok { IfOk result (λ reached. Takes (draft buffer.old written) item.entry (draft buffer.new reached)) }
+    ensures err { IfErr result (Refuses (draft buffer.old written) item.entry) }
+    ensures kept { OnErr result (buffer.new ≡ buffer.old) }
 {
     let place = written
         .place
@@ -53,7 +55,9 @@ impl<'a> Writer<'a> {
     // Writes one record more. That no hand-in has it there is found before that the buffer is too small.
     pub fn put(&mut self, item: Record<'_>) -> Result<(), WriteFault>
         ensures named { self.new.buffer.ghost_name ≡ self.old.buffer.ghost_name }
-        ensures value { Puts (draft_of self.old) item.entry (draft_of self.new) result }
+        ensures ok { OnOk result (Takes (draft_of self.old) item.entry (draft_of self.new)) }
+        ensures err { IfErr result (Refuses (draft_of self.old) item.entry) }
+        ensures kept { OnErr result (draft_of self.new ≡ draft_of self.old) }
     {
         self.reached = put_behind(self.buffer, self.reached, item)?;
         Ok(())

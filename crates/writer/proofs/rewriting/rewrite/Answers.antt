@@ -7,7 +7,7 @@ use Rattle.writer.proofs.rewriting.rewrite.Goals as goal
 
 pub loop-item-preserved : goal.loop-item-preserved
 loop-item-preserved c = (
-  copying_more _ _ _ (draft_of c.loop-item.writer) c.loop-item.invariant.0 c.in-Some.item _ _ c.in-Some.ensures.0 c.in_ok-put.ensures.value,
+  copying_more _ _ _ (draft_of c.loop-item.writer) c.loop-item.invariant.0 c.in-Some.item _ _ c.in-Some.ensures.0 c.in_ok-put.ensures.ok,
   c.put.ensures.named ∙ c.loop-item.invariant.1,
 )
 
@@ -16,7 +16,7 @@ returns-in_err-put c =
     let x = c.in-Some.ensures in
     let h = reads c.args.bytes.now c.in_ok-behind.behind _ _ c.hand_in.ensures.exact c.in_ok-behind.ensures.1 in
     absurd (not_refused _ c.args.buffer.now _ (draft_of c.loop-item.writer) c.loop-item.invariant.0 c.args.bytes.now c.in_ok-behind.behind _ h c.hand_in-reader.ensures.exact
-    c.in-Some.item _ x.0 x.1 (omega arith) _ c.in_err-put.ensures.value.1)
+    c.in-Some.item _ x.0 x.1 (omega arith) _ c.in_err-put.ensures.err)
 
 pub returns : goal.returns
 returns c =

@@ -28,25 +28,24 @@ module _ (m : Result Place WriteFault) (Q : Misfit → WriteFault → Type 0) wh
 no_room : (f : WriteFault) → ◌≡◌ {A = Result ℕ WriteFault} (Err f) (Err NoRoom) → f ≡ NoRoom
 no_room f e = cc
 
-pub returns-in_err-place : goal.returns-in_err-place
-returns-in_err-place c =
+pub returns-in_err-place-clause-err : goal.returns-in_err-place-clause-err
+returns-in_err-place-clause-err c =
     let d = draft c.args.buffer.now c.args.written in
     let p = err_from_is_err_and c.from_residual.result c.from_residual.ensures.1 in
     let r = refused _ _ c.step.result _ c.in_err-place.was c.map_err.ensures.cases in
     let e : c.in_err-place.field-0.0 ≡ fault_of r.misfit d.len = search rules in
-    rw (p.1, p.2) (refl, refuses d c.args.item r.misfit _ (sym r.is ∙ c.step.ensures) e)
+    rw (p.1, p.2) (refuses d c.args.item r.misfit _ (sym r.is ∙ c.step.ensures) e)
 
-pub returns-in_err-len : goal.returns-in_err-len
-returns-in_err-len c =
+pub returns-in_err-len-clause-err : goal.returns-in_err-len-clause-err
+returns-in_err-len-clause-err c =
     let d = draft c.args.buffer.now c.args.written in
     let p = err_from_is_err_and c.from_residual-in_err-len.result c.from_residual-in_err-len.ensures.1 in
     let s = passed _ _ c.step.result _ c.in_ok-place.was c.map_err.ensures.cases in
-    let n = rw c.in_err-len.ensures.ok_part at c.encode.ensures in
     let f = no_room _ (rw c.in_err-len.ensures.ok_part at c.in_err-len.ensures.value) in
-    rw (p.1, p.2, f) (ap (λ (xs : List ℕ). draft xs c.args.written) n.same, lacks_room d c.args.item _ c.in_ok-place.place (sym s ∙ c.step.ensures) n)
+    rw (p.1, p.2, f) (lacks_room d c.args.item _ c.in_ok-place.place (sym s ∙ c.step.ensures) (rw c.in_err-len.ensures.ok_part at c.encode.ensures))
 
-pub returns : goal.returns
-returns c =
+pub returns-clause-ok : goal.returns-clause-ok
+returns-clause-ok c =
     let d = draft c.args.buffer.now c.args.written in
     let s = passed _ _ c.step.result _ c.in_ok-place.was c.map_err.ensures.cases in
     takes d c.args.item _ c.in_ok-len.len c.in_ok-place.place (sym s ∙ c.step.ensures) (rw c.in_ok-len.ensures.ok_part at c.encode.ensures)
