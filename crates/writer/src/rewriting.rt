@@ -1,6 +1,6 @@
 // A hand-in is read, and written again record by record.
-ghost use Rattle.std.specs.Prelude.{◌≡◌};
-ghost use Rattle.writer.specs.Rewriting.{Rewrites};
+ghost use Rattle.std.specs.Prelude.{◌≡◌, IfOk, IfErr, OnErr};
+ghost use Rattle.writer.specs.Rewriting.{rewritten, BeginsHandIn, NotRewritten};
 ghost use Rattle.writer.specs.declared.rewriting.RewriteFault.TheVariants.{Reading, Writing};
 
 use crate::fault::WriteFault;
@@ -34,7 +34,10 @@ impl From<WriteFault> for RewriteFault {
 
 // Writes the hand-in that the bytes begin with into the buffer, record by record as it is read, and answers how many bytes it has.
 pub fn rewrite(bytes: &[u8], buffer: &mut [u8]) -> Result<usize, RewriteFault>
-    ensures { Rewrites bytes.now buffer.old buffer.new result }
+    ensures ok { IfOk result (BeginsHandIn bytes.now) }
+    ensures copied { IfOk result (λ behind. buffer.new ≡ rewritten behind bytes.now buffer.old) }
+    ensures err { IfErr result (NotRewritten bytes.now buffer.old) }
+    ensures kept { OnErr result (buffer.new ≡ buffer.old) }
 {
     let behind = Reader::hand_in(bytes, 0).finish()?;
     if behind > buffer.len() {
