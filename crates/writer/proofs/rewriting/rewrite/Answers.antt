@@ -1,5 +1,4 @@
 use Rattle.std.proofs.Common.{◌≡◌, ◌∙◌, arith, rules}
-use Rattle.reader.specs.Answer.{rest_of}
 use Rattle.writer.specs.Draft.{draft_of}
 use Rattle.writer.specs.Rewriting.{rewritten}
 use Rattle.writer.proofs.Copies.{reads, copying_more, copied, not_refused}

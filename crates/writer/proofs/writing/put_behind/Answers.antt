@@ -1,11 +1,11 @@
-use Rattle.std.proofs.Common.{◌≡◌, ℕ, List, Ok, Err, Result, refl, sym, ap, ◌∙◌, rules}
+use Rattle.std.proofs.Common.{◌≡◌, ℕ, Ok, Err, Result, refl, sym, ◌∙◌, rules}
 use Rattle.std.specs.Result.{MatchResult, IsErrAnd}
 use Rattle.std.proofs.lemmas.Result.{err_from_is_err_and}
 use Rattle.grammar.specs.declared.place.Place.{Place}
 use Rattle.grammar.specs.declared.step.Misfit.{Misfit}
 use Rattle.writer.specs.declared.fault.WriteFault.{WriteFault}
 use Rattle.writer.specs.declared.fault.WriteFault.TheVariants.{NoRoom}
-use Rattle.writer.specs.Draft.{Draft, draft}
+use Rattle.writer.specs.Draft.{draft}
 use Rattle.writer.specs.Faults.{fault_of}
 use Rattle.writer.proofs.Puts.{takes, lacks_room, refuses}
 use Rattle.writer.proofs.writing.put_behind.Goals as goal
