@@ -1,5 +1,5 @@
 -- The parts of a record, one behind the other.
-use Rattle.std.proofs.Common.{◌≡◌, ℕ, ◌+◌, ◌-◌, ◌<◌, ◌≤◌, List, [], ◌++◌, length, get_or, take, drop, Bor, sym, ap, ◌∙◌, append_assoc, arith}
+use Rattle.std.proofs.Common.{◌≡◌, ℕ, ◌+◌, ◌-◌, ◌<◌, ◌≤◌, List, [], ◌++◌, length, get_or, take, drop, Bor, sym, refl, ap, ◌∙◌, append_assoc, arith}
 use borrow.Rule.Slice.PartMut.{put_mid}
 use Rattle.std.proofs.lemmas.List.{length-append, length-take-le, take_at, take_all, take_more, flat_map_more}
 use Rattle.std.proofs.lemmas.List.Folds.{length-flat_map-take}
@@ -21,7 +21,7 @@ filled_more xs at ys ps zs h e fits =
     let l : length (take at xs ++ zs) ≡ at + length zs = length-append (take at xs) zs ∙ ap (λ n. n + length zs) (length-take-le at xs (omega arith)) in
     record {
       ends = omega (arith, h.ends, length-append ys zs);
-      front = rw e (ap (take (at + length zs)) (sym (append_assoc (take at xs) zs d)) ∙ take_at (take at xs ++ zs) d _ l ∙ ap (λ t. t ++ zs) h.front);
+      front = rw (e, ← append_assoc (take at xs) zs d, take_at (take at xs ++ zs) d _ l, h.front) refl;
     }
 
 -- the slice that is read past the end

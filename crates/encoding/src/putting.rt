@@ -18,7 +18,7 @@ fn put_parts(room: &mut [u8], parts: &[&[u8]])
     }
 }
 
-// A number in its two bytes.
+// A number in its two bytes, the highest first.
 fn two(number: u16) -> [u8; 2]
     ensures { result ≡ two number }
 {
