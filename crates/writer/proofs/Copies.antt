@@ -49,11 +49,10 @@ module _ (all : Reading) (old : List ℕ) (v : Reading) (d : Draft) (k : Copying
     -- in the end all of them are written
     pub copied : records_of v ≡ [] → d.bytes ≡ rewritten n xs old
     copied z =
-        let w = k.written in
-        let same : k.done ≡ rs = sym (append-nil k.done) ∙ ap (λ ts. k.done ++ ts) (sym z) ∙ sym (records_prefixed k.done v) ∙ sym (ap records_of k.read) ∙ all_records in
-        let l : d.len ≡ n = w.ends ∙ ap (λ ts. length (encodes ts)) same ∙ omega (arith, h.ends) in
-        let t : take n xs ≡ encodes rs = ap (take n) h.bytes ∙ take_at (encodes rs) (drop n xs) n (omega (arith, h.ends)) in
-        w.bytes ∙ ap (λ ts. encodes ts ++ drop d.len old) same ∙ ap (λ j. encodes rs ++ drop j old) l ∙ ap (λ s. s ++ drop n old) (sym t)
+        let same : rs ≡ k.done = sym all_records ∙ ap records_of k.read ∙ records_prefixed k.done v ∙ rw z (append-nil k.done) in
+        let ends : d.len ≡ n = omega (arith, h.ends, k.written.ends, ap (λ ts. length (encodes ts)) same) in
+        let front : take n xs ≡ encodes rs = ap (take n) h.bytes ∙ take_at (encodes rs) (drop n xs) n (omega (arith, h.ends)) in
+        rw (k.written.bytes, ends, front, same) refl
 
     -- until then the next one is not refused
     module _ (item : Record) (left : Reading) (s : v ≡ prefixed (content item ∷ []) left) (whole_item : whole item ≡ true) (room : n ≤ length old) where
@@ -67,10 +66,9 @@ module _ (all : Reading) (old : List ℕ) (v : Reading) (d : Draft) (k : Copying
 
       fits_still : d.len + length (encode (content item)) ≤ length d.bytes
       fits_still =
-          let a = ap (λ ts. length (encodes ts)) rest in
-          let b = ap length (encodes-append k.done (content item ∷ records_of left)) ∙ length-append (encodes k.done) (encode (content item) ++ encodes (records_of left)) in
-          let c = length-append (encode (content item)) (encodes (records_of left)) in
-          omega (arith, k.written.ends, h.ends, same_length old d k.done k.written)
+          let all : length (encodes rs) ≡ length (encodes k.done) + (length (encode (content item)) + length (encodes (records_of left))) =
+          rw (rest, encodes-append k.done (content item ∷ records_of left)) (simp length-append) in
+          omega (arith, all, k.written.ends, h.ends, same_length old d k.done k.written)
 
       pub not_refused : (f : WriteFault) → Refuses d item f → ⊥
       not_refused (BadMark at) g = g.none old k.done k.written (content item, refl, next)
