@@ -11,6 +11,7 @@ fn put_parts(room: &mut [u8], parts: &[&[u8]])
     requires { length room.old ≡ length (joined parts.now) }
     ensures { room.new ≡ joined parts.now }
 {
+    // An offset that grows: a rest that shrinks (`split_at_mut`) was tried, and what the room holds behind the loop stayed open.
     let mut at = 0;
     for part in parts {
         room[at..at + part.len()].copy_from_slice(part);

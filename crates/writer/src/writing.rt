@@ -19,6 +19,7 @@ struct Reached {
 
 #[derive(Drop)]
 pub struct Writer<'a> {
+    // The caller's, with how much of it is written beside it: nothing is allocated.
     buffer: &'a mut [u8],
     reached: Reached,
 }
