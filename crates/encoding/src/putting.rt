@@ -27,7 +27,7 @@ fn two(number: u16) -> [u8; 2]
 }
 
 // How many entries of `width` bytes each there are, in two bytes.
-fn count(entries: &[u8], width: usize) -> [u8; 2]
+fn entry_count(entries: &[u8], width: usize) -> [u8; 2]
     requires some { 0 < width }
     requires few { length entries.now / width < 65536 }
     ensures { result ≡ two (length entries.now / width) }
@@ -60,7 +60,7 @@ fn put_record(room: &mut [u8], item: Record<'_>)
             denominator,
         } => put_parts(room, &[b"MD", &two(states), &two(denominator)]),
         Record::St { goal, choices } => put_parts(room, &[b"ST", &[goal], &two(choices)]),
-        Record::Ch { entries } => put_parts(room, &[b"CH", &count(entries, 4), entries]),
+        Record::Ch { entries } => put_parts(room, &[b"CH", &entry_count(entries, 4), entries]),
         Record::Hd { kind, side } => put_parts(room, &[b"HD", &[kind, side]]),
         Record::Ce { state, claim } => put_parts(room, &[b"CE", &two(state), &claim.to_be_bytes()]),
         Record::Fl { state, claim } => put_parts(room, &[b"FL", &two(state), &claim.to_be_bytes()]),
@@ -85,7 +85,7 @@ fn put_record(room: &mut [u8], item: Record<'_>)
                 &[high],
                 &two(choice),
                 &two(matched),
-                &count(entries, 5),
+                &entry_count(entries, 5),
                 entries,
             ],
         ),
