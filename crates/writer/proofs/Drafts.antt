@@ -1,10 +1,10 @@
 -- A draft grows by a record, and is a hand-in in the end.
-use Rattle.std.proofs.Common.{◌≡◌, ℕ, ◌+◌, ◌≤◌, Bool, true, false, List, [], ◌∷◌, ◌++◌, length, take, drop, sym, ap, ◌∙◌, subst, append_assoc, arith}
+use Rattle.std.proofs.Common.{◌≡◌, ℕ, ◌+◌, ◌≤◌, Bool, true, false, List, [], ◌∷◌, ◌++◌, length, take, drop, sym, refl, ap, ◌∙◌, subst, append_assoc, arith}
 use Rattle.std.proofs.lemmas.List.{length-append, length-drop, take_at, drop_at, drop-drop, flat_map_more}
 use Rattle.std.proofs.lemmas.Bool.{both_ways}
 use Rattle.records.specs.Content.{Content, mark_of}
 use Rattle.records.specs.Encode.{encode, Fits}
-use Rattle.encoding.specs.Placed.{placed}
+use Rattle.std.specs.List.{splice}
 use Rattle.grammar.specs.declared.place.Place.{Place}
 use Rattle.grammar.specs.declared.place.Place.TheVariants.{HandInDue}
 use Rattle.grammar.specs.HandIn.{HandIn}
@@ -27,24 +27,21 @@ module _ (old : List ℕ) (d : Draft) (rs : List Content) (h : Written old d rs)
   rest_kept = ap (drop d.len) h.bytes ∙ drop_at (encodes rs) (drop d.len old) d.len (sym h.ends)
 
   pub same_length : length d.bytes ≡ length old
-  same_length =
-      let e = ap length h.bytes ∙ length-append (encodes rs) (drop d.len old) ∙ ap (λ k. length (encodes rs) + k) (length-drop d.len old) in
-      omega (arith, e, h.ends, h.within)
+  same_length = omega (arith, simp (length-append, length-drop) at (ap length h.bytes))
 
-  pub written_push : (r : Content) → Fits r → d.len + length (encode r) ≤ length d.bytes → allowed d.place (mark_of r) ≡ true → fits d.place r ≡ true → Written old (record { bytes = placed d.bytes d.len (encode r); len = d.len + length (encode r); place = after d.place r }) (rs ++ r ∷ [])
+  pub written_push :
+      (r : Content) → Fits r → d.len + length (encode r) ≤ length d.bytes → allowed d.place (mark_of r) ≡ true → fits d.place r ≡ true →
+      Written old (record { bytes = splice d.bytes d.len (d.len + length (encode r)) (encode r); len = d.len + length (encode r); place = after d.place r }) (rs ++ r ∷ [])
   written_push r f room a o =
       let n = d.len in
       let e = encode r in
       let es = encodes rs in
       let more : es ++ e ≡ encodes (rs ++ r ∷ []) = flat_map_more encode [] rs r in
       let front : take n d.bytes ≡ es = ap (take n) h.bytes ∙ take_at es (drop n old) n (sym h.ends) in
-      let rest : drop (n + length e) d.bytes ≡ drop (n + length e) old =
-      sym (drop-drop (length e) n d.bytes) ∙ ap (drop (length e)) rest_kept ∙ drop-drop (length e) n old in
+      let rest : drop (n + length e) d.bytes ≡ drop (n + length e) old = rw (← drop-drop (length e) n d.bytes, ← drop-drop (length e) n old, rest_kept) refl in
       record {
-        bytes =
-            ap (λ s. s ++ (e ++ drop (n + length e) d.bytes)) front ∙ ap (λ s. es ++ (e ++ s)) rest
-            ∙ sym (append_assoc es e (drop (n + length e) old)) ∙ ap (λ s. s ++ drop (n + length e) old) more;
-        ends = ap (λ k. k + length e) h.ends ∙ sym (length-append es e) ∙ ap length more;
+        bytes = rw (front, rest, ← more) (sym (append_assoc es e (drop (n + length e) old)));
+        ends = rw (← more, length-append es e, h.ends) refl;
         within = omega (arith, same_length);
         fit = all_fit_push rs r h.fit f;
         leads = leads_push rs HandInDue d.place r h.leads a o;

@@ -55,12 +55,12 @@ module _ (d : Draft) (item : Record) where
         entries = t.entries;
         next = next_where_passes t;
         written = λ old rs h.
-            let k = written_push old d rs h (content item) w.4 (omega (arith, w.1, w.2)) t.mark t.fields in
-            rw (w.0, w.1, t.behind) k;
+            let k = written_push old d rs h (content item) w.fits (omega (arith, w.ends, w.within)) t.mark t.fields in
+            rw (w.bytes, w.ends, t.behind) k;
       }
 
   pub lacks_room : (ys : List ℕ) (q : Place) → Ok q ≡ stepped d item → Encodes d.bytes d.len item ys None → LacksRoom d item
-  lacks_room ys q e w = let t = passes q e in record { entries = t.entries; next = next_where_passes t; short = w.1 t.entries }
+  lacks_room ys q e w = let t = passes q e in record { entries = t.entries; next = next_where_passes t; short = w.short t.entries }
 
   refuses_mark : Err BadMark ≡ stepped d item → RefusesMark d item d.len
   refuses_mark e =

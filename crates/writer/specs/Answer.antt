@@ -1,5 +1,5 @@
 -- What the writer's answers say.
-use Rattle.std.specs.Prelude.{◌≡◌, ℕ, ◌+◌, ◌<◌, Bool, true, false, List, [], ◌∷◌, ◌++◌, length, Ok, Err, Result}
+use Rattle.std.specs.Prelude.{◌≡◌, ℕ, ◌+◌, ◌<◌, Bool, true, false, List, [], ◌∷◌, ◌++◌, length}
 use Rattle.records.specs.declared.content.Record.{Record}
 use Rattle.records.specs.Content.{Content, mark_of}
 use Rattle.records.specs.Encode.{encode}
@@ -11,8 +11,7 @@ use Rattle.reader.specs.Exact.{read, stopped}
 use Rattle.reader.specs.Reading.{reading}
 use Rattle.writer.specs.declared.fault.WriteFault.{WriteFault}
 use Rattle.writer.specs.declared.fault.WriteFault.TheVariants.{BadMark, BadField, NoRoom}
-use Rattle.writer.specs.declared.writing.Reached.{Reached}
-use Rattle.writer.specs.Draft.{Draft, draft, Written, OfWritten}
+use Rattle.writer.specs.Draft.{Draft, Written, OfWritten}
 
 -- The record is taken: some hand-in goes on with it, and it is written behind the others.
 pub record Takes (d : Draft) (item : Record) (e : Draft) : Type 0 where
@@ -42,16 +41,6 @@ abbrev pub Refuses : Draft → Record → WriteFault → Type 0
 Refuses d item (BadMark at) = RefusesMark d item at
 Refuses d item (BadField at) = RefusesField d item at
 Refuses d item NoRoom = LacksRoom d item
-
--- The answer to one record more, after which the draft d is the draft e. A refusal leaves it as it was.
-abbrev pub Puts : Draft → Record → Draft → Result (Unit {0}) WriteFault → Type 0
-Puts d item e (Ok u) = Takes d item e
-Puts d item e (Err f) = (e ≡ d) × Refuses d item f
-
--- The same of a buffer that held xs and holds ys, where the answer says how far it is written.
-abbrev pub PutsBehind : List ℕ → Reached → Record → List ℕ → Result Reached WriteFault → Type 0
-PutsBehind xs n item ys (Ok m) = Takes (draft xs n) item (draft ys m)
-PutsBehind xs n item ys (Err f) = (draft ys n ≡ draft xs n) × Refuses (draft xs n) item f
 
 -- What is written is a hand-in of just these records, and a reader of the buffer finds them again and stops behind them.
 pub record ReadsBack (d : Draft) (rs : List Content) : Type 0 where

@@ -1,5 +1,5 @@
 -- A hand-in that is read and written again.
-use Rattle.std.specs.Prelude.{◌≡◌, ℕ, ◌<◌, List, ◌++◌, length, take, drop, Ok, Err, Result}
+use Rattle.std.specs.Prelude.{◌≡◌, ℕ, ◌<◌, List, ◌++◌, length, take, drop}
 use Rattle.records.specs.Content.{Content}
 use Rattle.grammar.specs.HandIn.{HandIn}
 use Rattle.grammar.specs.File.{Reads}
@@ -13,9 +13,11 @@ use Rattle.writer.specs.declared.rewriting.RewriteFault.TheVariants.{Reading, Wr
 abbrev pub rewritten : ℕ → List ℕ → List ℕ → List ℕ
 rewritten n xs old = take n xs ++ drop n old
 
--- The bytes begin with a hand-in of n bytes, and the buffer then holds just these bytes; or it is left as it was, since there is no
--- such hand-in, or it is longer than the buffer.
-abbrev pub Rewrites : List ℕ → List ℕ → List ℕ → Result ℕ RewriteFault → Type 0
-Rewrites xs old new (Ok n) = ((rs : List Content) × Reads HandIn xs 0 n rs) × (new ≡ rewritten n xs old)
-Rewrites xs old new (Err (Reading f)) = ((ds : List Content) × True HandIn xs 0 (read ds (fault (number_of f) (place_of f)))) × (new ≡ old)
-Rewrites xs old new (Err (Writing f)) = (f ≡ NoRoom) × ((rs : List Content) × (n : ℕ) × Reads HandIn xs 0 n rs × (length old < n)) × (new ≡ old)
+-- The bytes begin with a hand-in of n bytes.
+abbrev pub BeginsHandIn : List ℕ → ℕ → Type 0
+BeginsHandIn xs n = (rs : List Content) × Reads HandIn xs 0 n rs
+
+-- Why it is not written again: there is no such hand-in, or it is longer than the buffer.
+abbrev pub NotRewritten : List ℕ → List ℕ → RewriteFault → Type 0
+NotRewritten xs old (Reading f) = (ds : List Content) × True HandIn xs 0 (read ds (fault (number_of f) (place_of f)))
+NotRewritten xs old (Writing f) = (f ≡ NoRoom) × ((n : ℕ) × BeginsHandIn xs n × (length old < n))

@@ -18,7 +18,7 @@ pub enum WriteFault {
 }
 
 impl WriteFault {
-    // The fault of a record that does not fit where it would begin.
+    // The fault of a record that does not fit where it would begin. Not `From`: a pair would not say that the number is the offset.
     pub(crate) fn of(misfit: Misfit, at: usize) -> WriteFault
         ensures { result ≡ fault_of misfit at }
     {

@@ -1,17 +1,14 @@
 // A hand-in is read, and written again record by record.
-ghost use Rattle.std.specs.Prelude.{◌≡◌, ℕ, ◌≤◌, List, length};
-ghost use Rattle.records.specs.Content.{Content};
-ghost use Rattle.grammar.specs.File.{Reads};
-ghost use Rattle.grammar.specs.HandIn.{HandIn};
-ghost use Rattle.writer.specs.Rewriting.{Rewrites, rewritten};
-ghost use Rattle.writer.specs.declared.rewriting.RewriteFault.TheVariants.{Reading};
+ghost use Rattle.std.specs.Prelude.{◌≡◌, IfOk, IfErr, OnErr};
+ghost use Rattle.writer.specs.Rewriting.{rewritten, BeginsHandIn, NotRewritten};
+ghost use Rattle.writer.specs.declared.rewriting.RewriteFault.TheVariants.{Reading, Writing};
 
 use crate::fault::WriteFault;
 use crate::writing::Writer;
 use reader::{ReadFault, Reader};
 
 // Why a hand-in is not written again.
-#[derive(Clone, Copy)]
+#[derive(Clone, Copy, PartialEq, Eq, Debug)]
 pub enum RewriteFault {
     // The bytes do not begin with a hand-in.
     Reading(ReadFault),
@@ -27,28 +24,29 @@ impl From<ReadFault> for RewriteFault {
     }
 }
 
-// Writes the records of a hand-in, which the buffer has room for.
-fn put_all(bytes: &[u8], buffer: &mut [u8])
-    requires { (rs : List Content) × (n : ℕ) × Reads HandIn bytes.now 0 n rs × (n ≤ length buffer.old) }
-    ensures { (rs : List Content) (n : ℕ) → Reads HandIn bytes.now 0 n rs → buffer.new ≡ rewritten n bytes.now buffer.old }
-{
-    let mut reader = Reader::hand_in(bytes, 0);
-    let mut writer = Writer::new(buffer);
-    while let Some(item) = reader.next_record() {
-        if writer.put(item).is_err() {
-            return;
-        }
+impl From<WriteFault> for RewriteFault {
+    ghost from_gives = { λ x r. r ≡ Writing x };
+
+    fn from(fault: WriteFault) -> RewriteFault {
+        RewriteFault::Writing(fault)
     }
 }
 
 // Writes the hand-in that the bytes begin with into the buffer, record by record as it is read, and answers how many bytes it has.
 pub fn rewrite(bytes: &[u8], buffer: &mut [u8]) -> Result<usize, RewriteFault>
-    ensures { Rewrites bytes.now buffer.old buffer.new result }
+    ensures ok { IfOk result (BeginsHandIn bytes.now) }
+    ensures copied { IfOk result (λ behind. buffer.new ≡ rewritten behind bytes.now buffer.old) }
+    ensures err { IfErr result (NotRewritten bytes.now buffer.old) }
+    ensures kept { OnErr result (buffer.new ≡ buffer.old) }
 {
     let behind = Reader::hand_in(bytes, 0).finish()?;
     if behind > buffer.len() {
         return Err(RewriteFault::Writing(WriteFault::NoRoom));
     }
-    put_all(bytes, buffer);
+    let mut reader = Reader::hand_in(bytes, 0);
+    let mut writer = Writer::new(buffer);
+    while let Some(item) = reader.next_record() {
+        writer.put(item)?;
+    }
     Ok(behind)
 }

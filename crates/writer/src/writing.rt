@@ -1,7 +1,7 @@
 // A writer takes a hand-in record by record into a caller's buffer. A record that it refuses leaves all as it was.
-ghost use Rattle.std.specs.Prelude.{◌≡◌, []};
-ghost use Rattle.writer.specs.Draft.{draft_of, Written};
-ghost use Rattle.writer.specs.Answer.{Puts, PutsBehind, Complete};
+ghost use Rattle.std.specs.Prelude.{◌≡◌, [], IfOk, IfErr, OnOk, OnErr};
+ghost use Rattle.writer.specs.Draft.{draft, draft_of, Written};
+ghost use Rattle.writer.specs.Answer.{Takes, Refuses, Complete};
 
 use crate::fault::WriteFault;
 use encoding::encode;
@@ -19,22 +19,23 @@ struct Reached {
 
 #[derive(Drop)]
 pub struct Writer<'a> {
+    // The caller's, with how much of it is written beside it: nothing is allocated.
     buffer: &'a mut [u8],
     reached: Reached,
 }
 
 // Writes a record behind what is written, and answers how far that is then.
 fn put_behind(buffer: &mut [u8], written: Reached, item: Record<'_>) -> Result<Reached, WriteFault>
-    ensures { PutsBehind buffer.old written item.entry buffer.new result }
+    ensures ok { IfOk result (λ reached. Takes (draft buffer.old written) item.entry (draft buffer.new reached)) }
+    ensures err { IfErr result (Refuses (draft buffer.old written) item.entry) }
+    ensures kept { OnErr result (buffer.new ≡ buffer.old) }
 {
-    let place = match written.place.step(item) {
-        Ok(place) => place,
-        Err(misfit) => return Err(WriteFault::of(misfit, written.len)),
-    };
-    match encode(buffer, written.len, item) {
-        Some(len) => Ok(Reached { len, place }),
-        None => Err(WriteFault::NoRoom),
-    }
+    let place = written
+        .place
+        .step(item)
+        .map_err(|misfit| WriteFault::of(misfit, written.len))?;
+    let len = encode(buffer, written.len, item).ok_or(WriteFault::NoRoom)?;
+    Ok(Reached { len, place })
 }
 
 impl<'a> Writer<'a> {
@@ -55,11 +56,11 @@ impl<'a> Writer<'a> {
     // Writes one record more. That no hand-in has it there is found before that the buffer is too small.
     pub fn put(&mut self, item: Record<'_>) -> Result<(), WriteFault>
         ensures named { self.new.buffer.ghost_name ≡ self.old.buffer.ghost_name }
-        ensures value { Puts (draft_of self.old) item.entry (draft_of self.new) result }
+        ensures ok { OnOk result (Takes (draft_of self.old) item.entry (draft_of self.new)) }
+        ensures err { IfErr result (Refuses (draft_of self.old) item.entry) }
+        ensures kept { OnErr result (draft_of self.new ≡ draft_of self.old) }
     {
-        let written = self.reached;
-        let behind = put_behind(self.buffer, written, item)?;
-        self.reached = behind;
+        self.reached = put_behind(self.buffer, self.reached, item)?;
         Ok(())
     }
 
@@ -70,17 +71,11 @@ impl<'a> Writer<'a> {
         self.reached.len
     }
 
-    // Whether the place that was reached is the end.
-    fn is_over(&self) -> bool
-        ensures { Complete (draft_of self.now) result }
-    {
-        self.reached.place.is_over()
-    }
-
     // Whether ZZ is written.
+    #[tactic(auto, using(crate::proofs::Drafts::complete_where_over))]
     pub fn is_complete(&self) -> bool
         ensures { Complete (draft_of self.now) result }
     {
-        self.is_over()
+        self.reached.place.is_over()
     }
 }

@@ -1,49 +1,36 @@
-use Rattle.std.proofs.Common.{◌≡◌, ℕ, List, length, sym, ap, ◌∙◌, subst, arith, rules}
-use Rattle.records.specs.declared.content.Record.{Record}
-use Rattle.records.specs.Encode.{encode, Fits}
-use Rattle.encoding.specs.Placed.{placed}
-use Rattle.records.specs.Held.{content, whole}
-use Rattle.encoding.proofs.WholeEntries.{whole_entries, length-ch, length-wf}
+use Rattle.std.proofs.Common.{ℕ, ◌<◌, ◌∷◌, ◌++◌, get_or, sym, ◌∙◌, append_assoc, append-nil, arith, rules}
+use Rattle.encoding.proofs.WholeEntries.{length_ch, length_wf, ch_bytes, wf_bytes, ch_fits, wf_fits, small_behind}
 use Rattle.encoding.proofs.putting.put_record.Goals as goal
 
-pub put_ch-requires : goal.put_ch-requires
-put_ch-requires c =
-    let v = c.in-Ch in
-    let w = whole_entries 4 v.entries.now (sym (ap whole v.is) ∙ c.requires.1) in
-    let l = ap (λ r. length (encode (content r))) v.is ∙ length-ch v.entries.now w.0 in
-    (omega (arith, l, c.requires.0), w)
-
-pub put_wf-requires : goal.put_wf-requires
-put_wf-requires c =
-    let v = c.in-Wf in
-    let w = whole_entries 5 v.entries.now (sym (ap whole v.is) ∙ c.requires.1) in
-    let l = ap (λ r. length (encode (content r))) v.is ∙ length-wf v.state v.high v.choice v.matched v.entries.now w.0 in
-    (omega (arith, l, c.requires.0), w)
-
--- what holds of the variant holds of the record
-put_as : (xs ys : List ℕ) (at : ℕ) {r v : Record} → r ≡ v → ys ≡ placed xs at (encode (content v)) → ys ≡ placed xs at (encode (content r))
-put_as xs ys at e h = h ∙ ap (λ (k : Record). placed xs at (encode (content k))) (sym e)
-
-fits_as : {r v : Record} → r ≡ v → Fits (content v) → Fits (content r)
-fits_as e h = subst (λ (k : Record). Fits (content k)) (sym e) h
+pub put_parts-requires-in-Ch : goal.put_parts-requires-in-Ch
+put_parts-requires-in-Ch c =
+    rw (c.entry_count.ensures, append-nil c.in-Ch.entries.now) (omega (arith, length_ch c.in-Ch.is c.requires.whole, c.requires.room))
 
 pub returns-in-Ch : goal.returns-in-Ch
 returns-in-Ch c =
+    let v = c.in-Ch in
+    let es = v.entries.now in
+    let small : (j : ℕ) → get_or es j 0 < 256 = small_behind (67 ∷ 72 ∷ c.entry_count.result) es _ c.put_parts-in-Ch.ensures (λ j. (c.type_inv.room j).fits) in
     record {
-      value = put_as c.args.buffer.now _ c.args.at c.in-Ch.is c.put_ch.ensures.value;
-      fit = fits_as c.in-Ch.is c.put_ch.ensures.fit;
+      value = c.put_parts-in-Ch.ensures ∙ rw (c.entry_count.ensures, append-nil es) (sym (ch_bytes v.is c.requires.whole small));
+      fit = ch_fits v.is c.requires.whole small;
     }
 
-pub returns-in-Rw : goal.returns-in-Rw
-returns-in-Rw c =
-    record {
-      value = put_as c.args.buffer.now _ c.args.at c.in-Rw.is c.put_rw.ensures;
-      fit = fits_as c.in-Rw.is (search rules, search rules);
-    }
+pub put_parts-requires-in-Wf : goal.put_parts-requires-in-Wf
+put_parts-requires-in-Wf c =
+    rw (c.two-in-Wf.ensures, c.two-in-Wf-2.ensures, c.two-in-Wf-3.ensures, c.entry_count-in-Wf.ensures, append-nil c.in-Wf.entries.now)
+    (omega (arith, length_wf c.in-Wf.is c.requires.whole, c.requires.room))
 
 pub returns-in-Wf : goal.returns-in-Wf
 returns-in-Wf c =
+    let v = c.in-Wf in
+    let es = v.entries.now in
+    let all = c.put_parts-in-Wf.ensures in
+    let head = 87 ∷ 70 ∷ (c.two-in-Wf.result ++ (v.high ∷ (c.two-in-Wf-2.result ++ (c.two-in-Wf-3.result ++ c.entry_count-in-Wf.result)))) in
+    let small : (j : ℕ) → get_or es j 0 < 256 = small_behind head es _ (all ∙ simp append_assoc) (λ j. (c.type_inv.room j).fits) in
     record {
-      value = put_as c.args.buffer.now _ c.args.at c.in-Wf.is c.put_wf.ensures.value;
-      fit = fits_as c.in-Wf.is c.put_wf.ensures.fit;
+      value =
+          all ∙ rw (c.two-in-Wf.ensures, c.two-in-Wf-2.ensures, c.two-in-Wf-3.ensures, c.entry_count-in-Wf.ensures, append-nil es)
+          (sym (wf_bytes v.is c.requires.whole small));
+      fit = wf_fits v.is c.requires.whole small (search rules) (search rules) (search rules) (search rules);
     }
