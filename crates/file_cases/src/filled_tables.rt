@@ -6,7 +6,7 @@ use records::Branch;
 use sink::Sink;
 use std::process::Abort;
 use std::test::Fail;
-use tables::{ChoiceRow, Rows, StateRow, Table};
+use tables::{ChoiceRow, StateRow, Table};
 
 // Two states: the first has two choices, the second is a goal and has none. Two rows, two rows, three rows.
 const MODEL: &[u8] =

@@ -1,21 +1,22 @@
 -- The search by halves: its steps, and that among ascending targets it finds what is there.
-use Rattle.std.proofs.Common.{◌≡◌, ℕ, zero, suc, ◌+◌, ◌-◌, ◌/◌, ◌<◌, ◌≤◌, true, ltb, leb, List, [], ◌∷◌, ◌++◌, length, take, drop, sym, refl, ap, ◌∙◌, inl, inr, arith}
+use Rattle.std.proofs.Common.{◌≡◌, ℕ, zero, suc, ◌+◌, ◌-◌, ◌/◌, ◌<◌, ◌≤◌, true, ltb, leb, List, [], ◌∷◌, ◌++◌, length, take, drop, Some, None, sym, refl, ap, ◌∙◌, inl, inr, arith}
 use Rattle.std.proofs.lemmas.List.{append-nil, length-take-le, length-drop, drop_more, take-append-drop}
 use Rattle.std.proofs.lemmas.Bool.{cases_order, eq-eqb, ne_eqb, lt-ltb, le-ltb, le-leb, and_parts, leb-true, ltb-true}
+use Rattle.std.specs.Prelude.{Option, unwrap_or}
 use Rattle.records.specs.declared.content.Branch.{Branch}
 use Rattle.grammar.specs.ModelFile.{branches_ok}
 use Rattle.tables.specs.Said.{weight_among}
 use Rattle.tables.specs.Halves.{no_branch, middle, halved, found}
 
 -- the steps of the search
-pub halved_none : (f t : ℕ) (bs : List Branch) → length bs ≡ 0 → halved f bs t ≡ 0
+pub halved_none : (f t : ℕ) (bs : List Branch) → length bs ≡ 0 → halved f bs t ≡ None
 halved_none zero t bs e = refl
 halved_none (suc f) t [] e = refl
 halved_none (suc f) t (b ∷ bs) e = absurd (let z : ⊥ = omega arith in z)
 
 pub halved_here :
     (f t : ℕ) (bs : List Branch) → length bs ≤ f → 0 < length bs → (middle bs).target ≡ t
-    → halved f bs t ≡ (middle bs).weight
+    → halved f bs t ≡ Some (middle bs).weight
 halved_here zero t bs l p e = absurd (let z : ⊥ = omega arith in z)
 halved_here (suc f) t [] l p e = absurd (let z : ⊥ = omega arith in z)
 halved_here (suc f) t (b ∷ bs) l p e = rw (eq-eqb (middle (b ∷ bs)).target t e) refl
@@ -120,7 +121,7 @@ split : (bs : List Branch) → 0 < length bs → bs ≡ take (length bs / 2) bs 
 split bs p =
     sym (take-append-drop (length bs / 2) bs) ∙ ap (λ (cs : List Branch). take (length bs / 2) bs ++ cs) (drop_more bs (length bs / 2) no_branch (omega arith))
 
-halved_finds : (f n least t : ℕ) (bs : List Branch) → length bs ≤ f → branches_ok n least bs ≡ true → halved f bs t ≡ weight_among bs t
+halved_finds : (f n least t : ℕ) (bs : List Branch) → length bs ≤ f → branches_ok n least bs ≡ true → unwrap_or (halved f bs t) 0 ≡ weight_among bs t
 halved_finds zero n least t [] l ok = refl
 halved_finds zero n least t (b ∷ bs) l ok = absurd (let z : ⊥ = omega arith in z)
 halved_finds (suc f) n least t [] l ok = refl
@@ -133,20 +134,19 @@ halved_finds (suc f) n least t (b ∷ bs) l ok =
     let fine : branches_ok n least (before ++ middle all ∷ behind) ≡ true = ap (branches_ok n least) (sym parts) ∙ ok in
     let whole = ap (λ (cs : List Branch). weight_among cs t) parts in
     let fuel : suc f - 1 ≡ f = omega arith in
+    let weight = λ (o : Option ℕ). unwrap_or o 0 in
     elim (cases_order (middle all).target t) [
-      | inl e ↦ halved_here (suc f) t all l (omega arith) e ∙ sym (whole ∙ found_here n least t before (middle all) behind fine e)
+      | inl e ↦ ap weight (halved_here (suc f) t all l (omega arith) e) ∙ sym (whole ∙ found_here n least t before (middle all) behind fine e)
       | inr (inl u) ↦
-          halved_behind (suc f) t all l (omega arith) u
-          ∙ ap (λ k. halved k behind t) fuel
+          ap weight (halved_behind (suc f) t all l (omega arith) u ∙ ap (λ k. halved k behind t) fuel)
           ∙ halved_finds f n ((middle all).target + 1) t behind (omega (arith, length-drop (half + 1) all)) (ok_behind n least before (middle all) behind fine)
           ∙ sym (whole ∙ found_behind n least t before (middle all) behind fine u)
       | inr (inr u) ↦
-          halved_before (suc f) t all l (omega arith) u
-          ∙ ap (λ k. halved k before t) fuel
+          ap weight (halved_before (suc f) t all l (omega arith) u ∙ ap (λ k. halved k before t) fuel)
           ∙ halved_finds f (middle all).target least t before (omega (arith, length-take-le half all (omega arith))) (ok_before n least before (middle all) behind fine)
           ∙ sym (whole ∙ found_before n least t before (middle all) behind fine u)
     ]
 
 -- among ascending targets the search by halves finds what is there
-pub found_among : (n least t : ℕ) (bs : List Branch) → branches_ok n least bs ≡ true → found bs t ≡ weight_among bs t
+pub found_among : (n least t : ℕ) (bs : List Branch) → branches_ok n least bs ≡ true → unwrap_or (found bs t) 0 ≡ weight_among bs t
 found_among n least t bs ok = halved_finds (length bs) n least t bs (omega arith) ok
