@@ -5,8 +5,7 @@ use Rattle.tables.specs.Held.{Held, front}
 use Rattle.tables.proofs.Saying.{rows_tell}
 use Rattle.tables.specs.declared.rows.Filled.{Filled}
 use Rattle.filling.specs.declared.filling.Tables as lent
-use Rattle.filling.specs.Fills.{AreSameLoans, FileOf, rows_in, Tables, Room, fronted_by, filled_by, Filling, TooSmall}
-use Rattle.filling.specs.Placed.{RoomFor}
+use Rattle.filling.specs.Fills.{AreSameLoans, FileOf, rows_in, Tables, RoomFor, Room, fronted_by, filled_by, Filling, TooSmall}
 use Rattle.filling.proofs.Laid.{length-fronted}
 
 -- the filled rows are the rows
@@ -22,16 +21,10 @@ front_rows h t =
 -- A file whose rows were counted.
 module _ (xs : List ℕ) (file : FileOf xs) (k : Filled) (counted : k ≡ filled_by (rows_in xs file)) where
   pub room_for_rows : (t : Tables) → RoomFor k t → Room (rows_in xs file) t
-  room_for_rows t room =
-      let same : RoomFor (filled_by (rows_in xs file)) t = subst (λ (c : Filled). RoomFor c t) counted room in
-      record { states = same.states; choices = same.choices; branches = same.branches }
-
-  room_for_counts : (t : Tables) → Room (rows_in xs file) t → RoomFor k t
-  room_for_counts t room =
-      subst (λ (c : Filled). RoomFor c t) (sym counted) (record { states = room.states; choices = room.choices; branches = room.branches })
+  room_for_rows t = subst (λ (c : Filled). RoomFor c t) counted
 
   pub too_small : (t : Tables) → (RoomFor k t → ⊥) → TooSmall xs t
-  too_small t full = (file, λ room. full (room_for_counts t room))
+  too_small t full = (file, λ room. full (subst (λ (c : Filled). RoomFor c t) (sym counted) room))
 
   pub leaves : (old new : Tables) → RoomFor k old → new ≡ fronted_by (rows_in xs file) old → Filling xs old new k
   leaves old new room rows =

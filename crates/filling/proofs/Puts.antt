@@ -9,9 +9,9 @@ use Rattle.tables.specs.declared.rows.StateRow.{StateRow}
 use Rattle.tables.specs.declared.rows.ChoiceRow.{ChoiceRow}
 use Rattle.tables.specs.declared.rows.Filled.{Filled}
 use Rattle.filling.specs.Giving.{state, choice, given}
-use Rattle.filling.specs.Fills.{Tables, tables, fronted, filled_by}
+use Rattle.filling.specs.Fills.{Tables, tables, fronted, filled_by, RoomFor}
 use Rattle.filling.specs.Counted.{tally}
-use Rattle.filling.specs.Placed.{laid, RoomFor, Placed}
+use Rattle.filling.specs.Placed.{laid, Placed}
 use Rattle.filling.proofs.Laid.{set_fronted, laid_fronted}
 
 abbrev row_of_state : Filled → ℕ → ℕ → StateRow

@@ -15,8 +15,7 @@ use Rattle.tables.specs.Held.{Held}
 use Rattle.tables.specs.declared.rows.Filled.{Filled}
 use Rattle.filling.specs.Giving.{Gift, head, state, choice, nothing, given, none, add, adds}
 use Rattle.filling.specs.Counted.{tally, CountsFit, Counted}
-use Rattle.filling.specs.Fills.{FileOf, rows_in, filled_by, Tables, Room}
-use Rattle.filling.specs.Placed.{RoomFor}
+use Rattle.filling.specs.Fills.{FileOf, rows_in, filled_by, Tables, RoomFor, Room}
 use Rattle.tables.proofs.Saying.{length-state_rows}
 use Rattle.filling.proofs.Giving.{tally_add, adds-append, file_adds}
 

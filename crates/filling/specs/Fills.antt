@@ -46,12 +46,6 @@ pub record AreSameLoans (old new : lent.Tables) : Type 0 where
   pub choices : new.choices.ghost_name ≡ old.choices.ghost_name
   pub branches : new.branches.ghost_name ≡ old.branches.ghost_name
 
--- each table has room for its rows
-pub record Room (h : Held) (t : Tables) : Type 0 where
-  pub states : length h.states ≤ length t.states
-  pub choices : length h.choices ≤ length t.choices
-  pub branches : length h.branches ≤ length t.branches
-
 -- a table with rows at its front, and behind them what it held
 abbrev pub fronted : {X : Type 0} → List X → List X → List X
 fronted rows old = rows ++ drop (length rows) old
@@ -63,6 +57,15 @@ fronted_by h t = tables (fronted h.states t.states) (fronted h.choices t.choices
 abbrev pub filled_by : Held → Filled
 filled_by h =
     record { states = length h.states; denominator = h.denominator; choices = length h.choices; branches = length h.branches }
+
+-- the tables have room for so many rows, and for the rows h
+pub record RoomFor (k : Filled) (t : Tables) : Type 0 where
+  pub states : k.states ≤ length t.states
+  pub choices : k.choices ≤ length t.choices
+  pub branches : k.branches ≤ length t.branches
+
+abbrev pub Room : Held → Tables → Type 0
+Room h t = RoomFor (filled_by h) t
 
 -- The tables hold the file's rows, and past them what they held; the filled rows answer as the file says.
 pub record Filling (xs : List ℕ) (old new : Tables) (f : Filled) : Type 0 where

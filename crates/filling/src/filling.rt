@@ -2,9 +2,9 @@
 ghost use Rattle.std.specs.Prelude.{◌≡◌, Decides};
 ghost use Rattle.records.specs.Held.{content};
 ghost use Rattle.filling.specs.Counted.{tally};
-ghost use Rattle.filling.specs.Fills.{FileOf, rows_in, held_in, AreSameLoans, Room, fronted_by, Fills};
+ghost use Rattle.filling.specs.Fills.{FileOf, rows_in, held_in, AreSameLoans, RoomFor, Room, fronted_by, Fills};
 ghost use Rattle.filling.specs.Giving.{given};
-ghost use Rattle.filling.specs.Placed.{RoomFor, Placed};
+ghost use Rattle.filling.specs.Placed.{Placed};
 
 use crate::counting::{count, tally};
 use crate::fault::FillFault;

@@ -1,7 +1,7 @@
 // Rows that a caller lends.
 ghost use Rattle.std.specs.Prelude.{◌≡◌, ◌^◌, ◌<◌, length};
 
-use crate::rows::{ChoiceRow, Filled, Rows, StateRow, part};
+use crate::rows::{ChoiceRow, Rows, StateRow, part};
 use records::Branch;
 
 // The slices may be of any length, but the states are counted in 16 bits.
@@ -9,32 +9,14 @@ use records::Branch;
 pub struct Lent<'a> {
     pub(crate) denominator: u16,
     pub(crate) states: &'a [StateRow],
-    choices: &'a [ChoiceRow],
-    branches: &'a [Branch],
+    pub(crate) choices: &'a [ChoiceRow],
+    pub(crate) branches: &'a [Branch],
     ghost few: { length states.now < 2 ^ 16 },
 }
 
 impl<'a> Lent<'a> {
-    ghost use Rattle.tables.specs.Held.{front};
     ghost use Rattle.tables.specs.Lent.{held_by};
     ghost use Rattle.tables.specs.Tabled.{branches_of, state_at};
-
-    // The filled rows of each slice.
-    pub(crate) fn front(
-        states: &'a [StateRow],
-        choices: &'a [ChoiceRow],
-        branches: &'a [Branch],
-        filled: Filled,
-    ) -> Lent<'a>
-        ensures { held_by result ≡ front filled states.now choices.now branches.now }
-    {
-        Lent {
-            denominator: filled.denominator,
-            states: part(states, 0, usize::from(filled.states)),
-            choices: part(choices, 0, filled.choices),
-            branches: part(branches, 0, filled.branches),
-        }
-    }
 
     // The row of a state; one with nothing past the last.
     pub(crate) fn state(&self, s: u32) -> StateRow

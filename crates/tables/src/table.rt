@@ -7,7 +7,7 @@ ghost use Rattle.tables.specs.Tabled.{tabled};
 ghost use Rattle.tables.specs.Bounds;
 
 use crate::lent::Lent;
-use crate::rows::{ChoiceRow, Filled, Rows, StateRow};
+use crate::rows::{ChoiceRow, Filled, Rows, StateRow, part};
 use crate::search::find;
 use mdp::Source;
 use records::Branch;
@@ -30,7 +30,12 @@ impl<'a> Table<Lent<'a>> {
         ensures file { TellsFile (held_by result.rows) }
     {
         Table {
-            rows: Lent::front(states, choices, branches, filled),
+            rows: Lent {
+                denominator: filled.denominator,
+                states: part(states, 0, usize::from(filled.states)),
+                choices: part(choices, 0, filled.choices),
+                branches: part(branches, 0, filled.branches),
+            },
         }
     }
 }

@@ -1,41 +1,36 @@
-use Rattle.std.proofs.Common.{◌≡◌, ◌+◌, ◌-◌, ◌/◌, ◌<◌, length, Less, Equal, Greater, Some, sym, ap, ◌∙◌, arith}
-use Rattle.std.proofs.lemmas.Cmp.{ranked}
+use Rattle.std.proofs.Common.{◌+◌, ◌-◌, ◌/◌, length, Less, Equal, Greater, sym, ◌∙◌, arith}
 use Rattle.std.proofs.lemmas.List.{take_rest, length-drop, length-take-le}
-use Rattle.records.specs.declared.content.Branch.{Branch}
-use Rattle.tables.specs.Halves.{no_branch, middle}
-use Rattle.tables.proofs.Halves.{halved_none, halved_here, halved_behind, halved_before}
+use Rattle.tables.specs.Halves.{no_branch}
+use Rattle.tables.proofs.Halves.{halved_none, halved_step}
 use Rattle.tables.proofs.search.find.Goals as goal
 
 pub returns-in-Equal : goal.returns-in-Equal
 returns-in-Equal c =
     let fuel = c.loop-middle.invariant.1 in
-    let some = c.in-Some.ensures.lookup.3.0 in
-    let it = c.in-Some.ensures.lookup.4 (omega arith) no_branch in
-    let here : (middle c.loop-middle.rest.now).target ≡ c.args.target =
-    ap (λ (b : Branch). b.target) (sym it) ∙ sym c.from.ensures ∙ ranked c.from.result c.args.target Equal c.in-Equal.ensures in
-    ap (λ (b : Branch). Some b.weight) it ∙ sym (fuel.2 ∙ halved_here fuel.0 c.args.target c.loop-middle.rest.now fuel.1 (omega (arith, some)) here)
+    let it = c.in-Some.ensures.lookup in
+    let order = rw c.from.ensures at c.in-Equal.ensures in
+    sym (fuel.2 ∙ halved_step fuel.0 c.args.target c.loop-middle.rest.now c.in-Some.middle.now Equal fuel.1 (omega (arith, it.3.0)) (it.4 (omega arith) no_branch) order)
 
 pub loop-middle-preserved-in-Less : goal.loop-middle-preserved-in-Less
 loop-middle-preserved-in-Less c =
     let rest = c.loop-middle.rest.now in
     let fuel = c.loop-middle.invariant.1 in
-    let some = c.in-Some.ensures.lookup.3.0 in
-    let it = c.in-Some.ensures.lookup.4 (omega arith) no_branch in
-    let low : (middle rest).target < c.args.target = omega (arith, ap (λ (b : Branch). b.target) it, ranked c.from.result c.args.target Less c.in-Less.ensures) in
+    let it = c.in-Some.ensures.lookup in
+    let order = rw c.from.ensures at c.in-Less.ensures in
+    let step = halved_step fuel.0 c.args.target rest c.in-Some.middle.now Less fuel.1 (omega (arith, it.3.0)) (it.4 (omega arith) no_branch) order in
     let past = length rest / 2 + 1 in
     let size = length-drop past rest in
-    rw (take_rest rest past)
-    (omega arith, (fuel.0 - 1, omega (arith, fuel.1), fuel.2 ∙ halved_behind fuel.0 c.args.target rest fuel.1 (omega (arith, some)) low))
+    rw (take_rest rest past) (omega arith, (fuel.0 - 1, omega (arith, fuel.1, it.3.0), fuel.2 ∙ step))
 
 pub loop-middle-preserved : goal.loop-middle-preserved
 loop-middle-preserved c =
     let rest = c.loop-middle.rest.now in
     let fuel = c.loop-middle.invariant.1 in
-    let some = c.in-Some.ensures.lookup.3.0 in
-    let it = c.in-Some.ensures.lookup.4 (omega arith) no_branch in
-    let high : c.args.target < (middle rest).target = omega (arith, ap (λ (b : Branch). b.target) it, ranked c.from.result c.args.target Greater c.in-Greater.ensures) in
-    let size = length-take-le (length rest / 2) rest (omega arith) in
-    (omega arith, (fuel.0 - 1, omega (arith, fuel.1), fuel.2 ∙ halved_before fuel.0 c.args.target rest fuel.1 (omega (arith, some)) high))
+    let it = c.in-Some.ensures.lookup in
+    let order = rw c.from.ensures at c.in-Greater.ensures in
+    let step = halved_step fuel.0 c.args.target rest c.in-Some.middle.now Greater fuel.1 (omega (arith, it.3.0)) (it.4 (omega arith) no_branch) order in
+    let size = length-take-le (length rest / 2) rest (omega (arith, it.3.0)) in
+    (omega arith, (fuel.0 - 1, omega (arith, fuel.1, it.3.0), fuel.2 ∙ step))
 
 pub returns : goal.returns
 returns c =

@@ -3,9 +3,8 @@ use Rattle.records.specs.Held.{content}
 use Rattle.reader.specs.Answer.{rest_of}
 use Rattle.tables.specs.Held.{Held}
 use Rattle.filling.specs.Giving.{given, none, adds}
-use Rattle.filling.specs.Fills.{held_in, Room, fronted_by}
+use Rattle.filling.specs.Fills.{held_in, RoomFor, Room, fronted_by}
 use Rattle.filling.specs.Counted.{tally}
-use Rattle.filling.specs.Placed.{RoomFor}
 use Rattle.filling.proofs.Giving.{adds-append}
 use Rattle.filling.proofs.Readings.{none_yet, all_come, so_far_next, next_fits, next_room, file_rows}
 use Rattle.filling.proofs.Leaving.{fronted_room, same_trans}
