@@ -26,11 +26,11 @@ module _ (xs : List ℕ) (file : FileOf xs) (k : Filled) (counted : k ≡ filled
   pub too_small : (t : Tables) → (RoomFor k t → ⊥) → TooSmall xs t
   too_small t full = (file, λ room. full (subst (λ (c : Filled). RoomFor c t) (sym counted) room))
 
-  pub leaves : (old new : Tables) → RoomFor k old → new ≡ fronted_by (rows_in xs file) old → Filling xs old new k
+  pub leaves : (old new : Tables) → Room (rows_in xs file) old → new ≡ fronted_by (rows_in xs file) old → Filling xs old new k
   leaves old new room rows =
       record {
         file = file;
-        room = room_for_rows old room;
+        room = room;
         counts = counted;
         rows = rows;
         model = rows_tell (front k new.states new.choices new.branches) file.denominator file.states file.ranges

@@ -37,6 +37,7 @@ pub record Tables : Type 0 where
 abbrev pub tables : List StateRow → List ChoiceRow → List Branch → Tables
 tables ss cs bs = record { states = ss; choices = cs; branches = bs }
 
+-- of the tables that a caller lent
 abbrev pub held_in : lent.Tables → Tables
 held_in t = tables t.states.now t.choices.now t.branches.now
 
@@ -58,12 +59,13 @@ abbrev pub filled_by : Held → Filled
 filled_by h =
     record { states = length h.states; denominator = h.denominator; choices = length h.choices; branches = length h.branches }
 
--- the tables have room for so many rows, and for the rows h
+-- the tables have room for so many rows
 pub record RoomFor (k : Filled) (t : Tables) : Type 0 where
   pub states : k.states ≤ length t.states
   pub choices : k.choices ≤ length t.choices
   pub branches : k.branches ≤ length t.branches
 
+-- and for the rows h
 abbrev pub Room : Held → Tables → Type 0
 Room h t = RoomFor (filled_by h) t
 

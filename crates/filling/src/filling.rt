@@ -2,7 +2,7 @@
 ghost use Rattle.std.specs.Prelude.{◌≡◌, Decides};
 ghost use Rattle.records.specs.Held.{content};
 ghost use Rattle.filling.specs.Counted.{tally};
-ghost use Rattle.filling.specs.Fills.{FileOf, rows_in, held_in, AreSameLoans, RoomFor, Room, fronted_by, Fills};
+ghost use Rattle.filling.specs.Fills.{FileOf, rows_in, held_in, AreSameLoans, RoomFor, Room, Filling, Fills};
 ghost use Rattle.filling.specs.Giving.{given};
 ghost use Rattle.filling.specs.Placed.{Placed};
 
@@ -27,12 +27,11 @@ impl Tables<'_> {
         ensures named { AreSameLoans self.old self.new }
         ensures value { Fills bytes.now (held_in self.old) (held_in self.new) result }
     {
-        let filled = count(bytes)?;
-        if !self.has_room(filled) {
+        let counts = count(bytes)?;
+        if !self.has_room(counts) {
             return Err(FillFault::NoRoom);
         }
-        self.write_rows(bytes);
-        Ok(filled)
+        Ok(self.write_rows(bytes))
     }
 
     // Whether each table has room for its rows.
@@ -44,11 +43,11 @@ impl Tables<'_> {
             && counts.branches <= self.branches.len()
     }
 
-    // The rows of a file, into tables that have room for them.
-    fn write_rows(&mut self, bytes: &[u8])
+    // The rows of a file, into tables that have room for them, and how much is filled.
+    fn write_rows(&mut self, bytes: &[u8]) -> Filled
         requires { (file : FileOf bytes.now) × Room (rows_in bytes.now file) (held_in self.old) }
         ensures named { AreSameLoans self.old self.new }
-        ensures rows { (file : FileOf bytes.now) → held_in self.new ≡ fronted_by (rows_in bytes.now file) (held_in self.old) }
+        ensures value { Filling bytes.now (held_in self.old) (held_in self.new) result }
     {
         let mut reader = Reader::model_file(bytes, 0);
         let mut filled = Filled::default();
@@ -56,6 +55,7 @@ impl Tables<'_> {
             self.put(filled, item);
             filled = tally(filled, item);
         }
+        filled
     }
 
     // The rows of a record, behind those that are filled.

@@ -1,4 +1,4 @@
--- The search by halves, as the code does it.
+-- The search by halves. Rows may stand in any order, and a table has one meaning, so what is found is said halving by halving.
 use Rattle.std.specs.Prelude.{ℕ, zero, suc, ◌+◌, ◌/◌, cond, List, [], ◌∷◌, length, take, drop, Option, Some, None, ◌==◌, nat_lt, slice_index_or}
 use Rattle.records.specs.declared.content.Branch.{Branch}
 

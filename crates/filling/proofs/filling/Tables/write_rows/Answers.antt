@@ -3,11 +3,11 @@ use Rattle.records.specs.Held.{content}
 use Rattle.reader.specs.Answer.{rest_of}
 use Rattle.tables.specs.Held.{Held}
 use Rattle.filling.specs.Giving.{given, none, adds}
-use Rattle.filling.specs.Fills.{held_in, RoomFor, Room, fronted_by}
+use Rattle.filling.specs.Fills.{held_in, RoomFor, Room, fronted_by, filled_by}
 use Rattle.filling.specs.Counted.{tally}
 use Rattle.filling.proofs.Giving.{adds-append}
 use Rattle.filling.proofs.Readings.{none_yet, all_come, so_far_next, next_fits, next_room, file_rows}
-use Rattle.filling.proofs.Leaving.{fronted_room, same_trans}
+use Rattle.filling.proofs.Leaving.{leaves, fronted_room, same_trans}
 use Rattle.filling.proofs.filling.Tables.write_rows.Goals as goal
 
 pub loop-item-init : goal.loop-item-init
@@ -43,10 +43,12 @@ loop-item-preserved c =
       same_trans c.args.self.now c.loop-item.self c.put.new.self c.loop-item.invariant.2 c.put.ensures.named,
     )
 
-pub returns-clause-rows : goal.returns-clause-rows
-returns-clause-rows c file =
+pub returns-clause-value : goal.returns-clause-value
+returns-clause-value c =
     let all = rest_of c.model_file-reader.result in
     let so = c.loop-item.invariant.0 in
+    let file = c.requires.0 in
     let old = held_in c.args.self.now in
-    let same = ap (adds none) (all_come all (rest_of c.loop-item.reader) c.loop-item.filled so c.in_default.ensures.0) in
-    c.loop-item.invariant.1 ∙ ap (λ (h : Held). fronted_by h old) (same ∙ file_rows c.args.bytes.now all c.model_file-reader.ensures.exact file)
+    let same = ap (adds none) (all_come all (rest_of c.loop-item.reader) c.loop-item.filled so c.in_default.ensures.0) ∙ file_rows c.args.bytes.now all c.model_file-reader.ensures.exact file in
+    leaves c.args.bytes.now file c.loop-item.filled (so.counts ∙ ap filled_by same) old (held_in c.loop-item.self) c.requires.1
+    (c.loop-item.invariant.1 ∙ ap (λ (h : Held). fronted_by h old) same)
