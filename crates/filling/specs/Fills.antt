@@ -37,7 +37,7 @@ pub record Tables : Type 0 where
 abbrev pub tables : List StateRow → List ChoiceRow → List Branch → Tables
 tables ss cs bs = record { states = ss; choices = cs; branches = bs }
 
--- of the tables that a caller lent
+-- what the tables hold that a caller lent
 abbrev pub held_in : lent.Tables → Tables
 held_in t = tables t.states.now t.choices.now t.branches.now
 
@@ -65,7 +65,7 @@ pub record RoomFor (k : Filled) (t : Tables) : Type 0 where
   pub choices : k.choices ≤ length t.choices
   pub branches : k.branches ≤ length t.branches
 
--- and for the rows h
+-- the tables have room for the rows h
 abbrev pub Room : Held → Tables → Type 0
 Room h t = RoomFor (filled_by h) t
 
