@@ -1,12 +1,12 @@
 // Tables filled from model files, and the models that they answer for.
-use filling::fill;
+use filling::Tables;
 use inspection::{Fault, inspect};
 use mdp::Source;
 use records::Branch;
 use sink::Sink;
 use std::process::Abort;
 use std::test::Fail;
-use tables::{ChoiceRow, Rows, StateRow, Table};
+use tables::{ChoiceRow, StateRow, Table};
 
 // Two states: the first has two choices, the second is a goal and has none. Two rows, two rows, three rows.
 const MODEL: &[u8] =
@@ -41,7 +41,12 @@ fn filled(rt: HostRuntime) -> Result<(), Fail> {
     let mut states = [state_row(); 3];
     let mut choices = [choice_row(); 3];
     let mut branches = [branch(); 4];
-    let Ok(filled) = fill(MODEL, &mut states, &mut choices, &mut branches) else {
+    let mut tables = Tables {
+        states: &mut states,
+        choices: &mut choices,
+        branches: &mut branches,
+    };
+    let Ok(filled) = tables.fill(MODEL) else {
         return Err(Fail::new("refused"));
     };
     assert_eq!(rt; filled.states, 2);
@@ -69,7 +74,12 @@ fn opened_under_the_sink(rt: HostRuntime) -> Result<(), Fail> {
     let mut states = [state_row(); 2];
     let mut choices = [choice_row(); 2];
     let mut branches = [branch(); 3];
-    let Ok(filled) = fill(MODEL, &mut states, &mut choices, &mut branches) else {
+    let mut tables = Tables {
+        states: &mut states,
+        choices: &mut choices,
+        branches: &mut branches,
+    };
+    let Ok(filled) = tables.fill(MODEL) else {
         return Err(Fail::new("refused"));
     };
     let table = Table::over(&states, &choices, &branches, filled);
@@ -94,13 +104,12 @@ fn refused(
     let mut choices = [choice_row(); 3];
     let mut branches = [branch(); 4];
     assert!(rt; sizes.0 <= 3 && sizes.1 <= 3 && sizes.2 <= 4);
-    let answer = fill(
-        bytes,
-        &mut states[0..sizes.0],
-        &mut choices[0..sizes.1],
-        &mut branches[0..sizes.2],
-    );
-    let Err(fault) = answer else {
+    let mut tables = Tables {
+        states: &mut states[0..sizes.0],
+        choices: &mut choices[0..sizes.1],
+        branches: &mut branches[0..sizes.2],
+    };
+    let Err(fault) = tables.fill(bytes) else {
         return Err(Fail::new("filled"));
     };
     assert_eq!(rt; fault.number(), number);
@@ -140,19 +149,24 @@ fn little_models(rt: HostRuntime) -> Result<(), Fail> {
     let mut states = [state_row(); 1];
     let mut choices = [choice_row(); 1];
     let mut branches = [branch(); 1];
-    let Ok(none) = fill(
-        b"MD\x00\x00\x00\x04ZZ",
-        &mut states,
-        &mut choices,
-        &mut branches,
-    ) else {
+    let mut tables = Tables {
+        states: &mut states,
+        choices: &mut choices,
+        branches: &mut branches,
+    };
+    let Ok(none) = tables.fill(b"MD\x00\x00\x00\x04ZZ") else {
         return Err(Fail::new("no states refused"));
     };
     let table = Table::over(&states, &choices, &branches, none);
     assert!(rt; table.states() == 0 && !table.is_goal(0) && table.choices(0) == 0);
     assert!(rt; inspect(&table).is_err());
     let file = b"MD\x00\x01\x00\x04ST\x00\x00\x01CH\x00\x00ZZ";
-    let Ok(empty) = fill(file, &mut states, &mut choices, &mut branches) else {
+    let mut tables = Tables {
+        states: &mut states,
+        choices: &mut choices,
+        branches: &mut branches,
+    };
+    let Ok(empty) = tables.fill(file) else {
         return Err(Fail::new("no targets refused"));
     };
     let table = Table::over(&states, &choices, &branches, empty);

@@ -9,9 +9,10 @@ use Rattle.tables.specs.declared.rows.ChoiceRow.{ChoiceRow}
 use Rattle.tables.specs.Held.{Held}
 use Rattle.tables.specs.Rows.{all_choices, all_branches, state_rows, choice_rows, rows_of}
 use Rattle.filling.specs.Giving.{Gift, head, state, choice, nothing, given, none, add, adds}
-use Rattle.filling.specs.Counted.{counts_of, tally}
+use Rattle.filling.specs.Fills.{filled_by}
+use Rattle.filling.specs.Counted.{tally}
 
-pub tally_add : (h : Held) (g : Gift) → tally (counts_of h) g ≡ counts_of (add h g)
+pub tally_add : (h : Held) (g : Gift) → tally (filled_by h) g ≡ filled_by (add h g)
 tally_add h (head d) = refl
 tally_add h (state g k) = simp length_push
 tally_add h (choice bs) = simp (length_push, length-append)

@@ -1,7 +1,6 @@
 -- Rows laid over a table.
-use Rattle.std.proofs.Common.{◌≡◌, ℕ, ◌+◌, ◌-◌, ◌<◌, ◌≤◌, List, [], ◌∷◌, ◌++◌, length, get_or, take, drop, set, Some, None, sym, refl, ap, ◌∙◌, append_assoc, add-zero, arith}
+use Rattle.std.proofs.Common.{◌≡◌, ℕ, ◌+◌, ◌-◌, ◌<◌, ◌≤◌, List, [], ◌∷◌, ◌++◌, length, get_or, take, drop, set, slice_get, Some, None, sym, refl, ap, ◌∙◌, append_assoc, add-zero, arith}
 use Rattle.std.proofs.lemmas.List.{append-nil, take_more, get_or-drop, drop_more, set_at, length-append, length_push, length-drop, length-take-le, take-append-drop, take_at, drop_at, drop-drop}
-use Rattle.std.specs.List.{slice_get}
 use Rattle.grammar.proofs.OneByOne.{index_below, drop_at as drop_nth, drop_none}
 use Rattle.filling.specs.Fills.{fronted}
 use Rattle.filling.specs.Placed.{laid}

@@ -1,13 +1,12 @@
 -- What a filling leaves.
-use Rattle.std.proofs.Common.{◌≡◌, ℕ, ◌<◌, List, length, drop, sym, refl, ap, ◌∙◌, subst, arith}
+use Rattle.std.proofs.Common.{◌≡◌, ℕ, List, length, drop, sym, refl, ap, ◌∙◌, subst, arith}
 use Rattle.std.proofs.lemmas.List.{take_at}
-use Rattle.tables.specs.declared.rows.Filled.{Filled}
 use Rattle.tables.specs.Held.{Held, front}
-use Rattle.tables.proofs.Saying.{length-state_rows, rows_tell}
-use Rattle.filling.specs.declared.counts.Counts.{Counts}
-use Rattle.filling.specs.Counted.{counts_of}
-use Rattle.filling.specs.Fills.{FileOf, rows_in, Tables, Room, fronted_by, filled_by, Filling, TooSmall}
-use Rattle.filling.specs.Placed.{RoomFor}
+use Rattle.tables.proofs.Saying.{rows_tell}
+use Rattle.tables.specs.declared.rows.Filled.{Filled}
+use Rattle.filling.specs.declared.filling.Tables as lent
+use Rattle.filling.specs.Fills.{AreSameLoans, FileOf, rows_in, Tables, RoomFor, Room, fronted_by, filled_by, Filling, TooSmall}
+use Rattle.filling.proofs.Laid.{length-fronted}
 
 -- the filled rows are the rows
 front_rows : (h : Held) (t : Tables) → front (filled_by h) (fronted_by h t).states (fronted_by h t).choices (fronted_by h t).branches ≡ h
@@ -19,37 +18,36 @@ front_rows h t =
     )
     refl
 
-abbrev filled_as : Counts → Filled
-filled_as k = record { states = k.states; denominator = k.denominator; choices = k.choices; branches = k.branches }
-
 -- A file whose rows were counted.
-module _ (xs : List ℕ) (file : FileOf xs) (k : Counts) (counted : k ≡ counts_of (rows_in xs file)) where
-  -- a file has fewer than 65,536 states
-  pub few_states : k.states < 65536
-  few_states = omega (arith, ap (λ (c : Counts). c.states) counted, length-state_rows 0 file.states, file.reads.fit.0.0)
-
+module _ (xs : List ℕ) (file : FileOf xs) (k : Filled) (counted : k ≡ filled_by (rows_in xs file)) where
   pub room_for_rows : (t : Tables) → RoomFor k t → Room (rows_in xs file) t
-  room_for_rows t room =
-      let same : RoomFor (counts_of (rows_in xs file)) t = subst (λ (c : Counts). RoomFor c t) counted room in
-      record { states = same.states; choices = same.choices; branches = same.branches }
-
-  room_for_counts : (t : Tables) → Room (rows_in xs file) t → RoomFor k t
-  room_for_counts t room =
-      subst (λ (c : Counts). RoomFor c t) (sym counted) (record { states = room.states; choices = room.choices; branches = room.branches })
+  room_for_rows t = subst (λ (c : Filled). RoomFor c t) counted
 
   pub too_small : (t : Tables) → (RoomFor k t → ⊥) → TooSmall xs t
-  too_small t full = (file, λ room. full (room_for_counts t room))
+  too_small t full = (file, λ room. full (subst (λ (c : Filled). RoomFor c t) (sym counted) room))
 
-  pub leaves : (old new : Tables) → RoomFor k old → new ≡ fronted_by (rows_in xs file) old → Filling xs old new (filled_as k)
+  pub leaves : (old new : Tables) → Room (rows_in xs file) old → new ≡ fronted_by (rows_in xs file) old → Filling xs old new k
   leaves old new room rows =
-      let filled = ap filled_as counted in
       record {
         file = file;
-        room = room_for_rows old room;
-        counts = filled;
+        room = room;
+        counts = counted;
         rows = rows;
-        model = rows_tell (front (filled_as k) new.states new.choices new.branches) file.denominator file.states file.ranges
-            (ap (λ (f : Filled). front f new.states new.choices new.branches) filled
+        model = rows_tell (front k new.states new.choices new.branches) file.denominator file.states file.ranges
+            (ap (λ (f : Filled). front f new.states new.choices new.branches) counted
             ∙ ap (λ (t : Tables). front (filled_by (rows_in xs file)) t.states t.choices t.branches) rows
             ∙ front_rows (rows_in xs file) old);
       }
+
+-- rows at the front leave as much room
+pub fronted_room : (h : Held) (k : Filled) (old : Tables) → RoomFor k old → RoomFor k (fronted_by h old)
+fronted_room h k old room =
+    record {
+      states = omega (arith, room.states, length-fronted h.states old.states);
+      choices = omega (arith, room.choices, length-fronted h.choices old.choices);
+      branches = omega (arith, room.branches, length-fronted h.branches old.branches);
+    }
+
+-- the caller's slices, from step to step
+pub same_trans : (a b c : lent.Tables) → AreSameLoans a b → AreSameLoans b c → AreSameLoans a c
+same_trans a b c p q = record { states = q.states ∙ p.states; choices = q.choices ∙ p.choices; branches = q.branches ∙ p.branches }

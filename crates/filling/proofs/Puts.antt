@@ -7,36 +7,36 @@ use Rattle.records.specs.Held.{content, branches}
 use Rattle.records.proofs.EntryLists.{length-branches}
 use Rattle.tables.specs.declared.rows.StateRow.{StateRow}
 use Rattle.tables.specs.declared.rows.ChoiceRow.{ChoiceRow}
-use Rattle.filling.specs.declared.counts.Counts.{Counts}
+use Rattle.tables.specs.declared.rows.Filled.{Filled}
 use Rattle.filling.specs.Giving.{state, choice, given}
-use Rattle.filling.specs.Fills.{Tables, tables, fronted}
-use Rattle.filling.specs.Counted.{counts_of, tally}
-use Rattle.filling.specs.Placed.{laid, RoomFor, Placed}
+use Rattle.filling.specs.Fills.{Tables, tables, fronted, filled_by, RoomFor}
+use Rattle.filling.specs.Counted.{tally}
+use Rattle.filling.specs.Placed.{laid, Placed}
 use Rattle.filling.proofs.Laid.{set_fronted, laid_fronted}
 
-abbrev row_of_state : Counts → ℕ → ℕ → StateRow
+abbrev row_of_state : Filled → ℕ → ℕ → StateRow
 row_of_state k g n = record { goal = eqb g 1; first = k.choices; choices = n }
 
-abbrev row_of_choice : Counts → ℕ → ChoiceRow
+abbrev row_of_choice : Filled → ℕ → ChoiceRow
 row_of_choice k n = record { first = k.branches; branches = n }
 
 state_put :
-    (k : Counts) (g n : ℕ) (was : Tables) → k.states < length was.states
+    (k : Filled) (g n : ℕ) (was : Tables) → k.states < length was.states
     → Placed k (state g n) was (tables (set was.states k.states (row_of_state k g n)) was.choices was.branches)
 state_put k g n was room h old e w =
     let rows = h.states in
-    let fits : length rows < length (fronted rows old.states) = omega (arith, ap (λ (c : Counts). c.states) e, ap (λ (t : Tables). length t.states) w) in
-    rw (w, e, set_fronted rows old.states (row_of_state (counts_of h) g n) fits) refl
+    let fits : length rows < length (fronted rows old.states) = omega (arith, ap (λ (c : Filled). c.states) e, ap (λ (t : Tables). length t.states) w) in
+    rw (w, e, set_fronted rows old.states (row_of_state (filled_by h) g n) fits) refl
 
 choice_put :
-    (k : Counts) (bs : List Branch) (n : ℕ) (was : Tables) → n ≡ length bs → k.choices < length was.choices
+    (k : Filled) (bs : List Branch) (n : ℕ) (was : Tables) → n ≡ length bs → k.choices < length was.choices
     → Placed k (choice bs) was (tables was.states (set was.choices k.choices (row_of_choice k n)) (laid was.branches k.branches bs))
 choice_put k bs n was size room h old e w =
     let rows = h.choices in
-    let fits : length rows < length (fronted rows old.choices) = omega (arith, ap (λ (c : Counts). c.choices) e, ap (λ (t : Tables). length t.choices) w) in
-    rw (w, e, size, set_fronted rows old.choices (row_of_choice (counts_of h) (length bs)) fits, laid_fronted h.branches old.branches bs) refl
+    let fits : length rows < length (fronted rows old.choices) = omega (arith, ap (λ (c : Filled). c.choices) e, ap (λ (t : Tables). length t.choices) w) in
+    rw (w, e, size, set_fronted rows old.choices (row_of_choice (filled_by h) (length bs)) fits, laid_fronted h.branches old.branches bs) refl
 
-module _ (k : Counts) (item : Record) (was : Tables) (room : RoomFor (tally k (given (content item))) was) where
+module _ (k : Filled) (item : Record) (was : Tables) (room : RoomFor (tally k (given (content item))) was) where
   pub state_placed :
       (g n : ℕ) → item ≡ St g n
       → Placed k (given (content item)) was (tables (set was.states k.states (row_of_state k g n)) was.choices was.branches)

@@ -2,21 +2,21 @@
 use Rattle.std.proofs.Common.{◌≡◌, ℕ, ◌+◌, ◌^◌, ◌<◌, ◌≤◌, List, [], ◌∷◌, ◌++◌, length, drop, None, Ok, Option, sym, refl, ap, ◌∙◌, subst, inl, arith}
 use Rattle.std.proofs.lemmas.List.{append-nil, length-append, length_push}
 use Rattle.records.specs.Content.{Content, md, st, ch, hd, ce, fl, pc, pm, rw', wf, zz}
-use Rattle.records.specs.Encode.{encode}
+use Rattle.records.specs.Encode.{encode, Fits}
 use Rattle.records.proofs.Return.{branches_length}
-use Rattle.grammar.specs.File.{Reads, encodes}
-use Rattle.grammar.specs.ModelFile.{ModelFile, file_records}
+use Rattle.grammar.specs.File.{Reads, AllFit, encodes}
+use Rattle.grammar.specs.ModelFile.{State, ModelFile, file_records}
 use Rattle.records.specs.declared.content.Record.{Record}
 use Rattle.reader.specs.declared.reading.Reader.{Reader}
 use Rattle.reader.specs.Answer.{rest_of, Next}
 use Rattle.reader.specs.Exact.{Ending, stopped, fault, Reading, read, records_of, True, Exactly, FirstFault, prefixed}
 use Rattle.reader.proofs.Steps.{prefixed_twice}
 use Rattle.tables.specs.Held.{Held}
-use Rattle.filling.specs.declared.counts.Counts.{Counts}
+use Rattle.tables.specs.declared.rows.Filled.{Filled}
 use Rattle.filling.specs.Giving.{Gift, head, state, choice, nothing, given, none, add, adds}
-use Rattle.filling.specs.Counted.{counts_of, tally, CountsFit, Counted}
-use Rattle.filling.specs.Fills.{FileOf, rows_in, Tables, Room}
-use Rattle.filling.specs.Placed.{RoomFor}
+use Rattle.filling.specs.Counted.{tally, CountsFit, Counted}
+use Rattle.filling.specs.Fills.{FileOf, rows_in, filled_by, Tables, RoomFor, Room}
+use Rattle.tables.proofs.Saying.{length-state_rows}
 use Rattle.filling.proofs.Giving.{tally_add, adds-append, file_adds}
 
 -- no more rows than so many, in each part
@@ -61,19 +61,19 @@ few_adds h n m (r ∷ rs) few l =
     few_adds (add h (given r)) (n + length (encode r)) m rs (few_more h (given r) n (n + length (encode r)) few (omega (arith, size_least r))) (omega arith)
 
 -- no part has more rows than with the records that follow
-record Within (k : Counts) (h : Held) : Type 0 where
+record Within (k : Filled) (h : Held) : Type 0 where
   states : k.states ≤ length h.states
   choices : k.choices ≤ length h.choices
   branches : k.branches ≤ length h.branches
 
-below_add : (h : Held) (g : Gift) → Within (counts_of h) (add h g)
+below_add : (h : Held) (g : Gift) → Within (filled_by h) (add h g)
 below_add h (head d) = record { states = omega arith; choices = omega arith; branches = omega arith }
 below_add h (state g k) = record { states = rw (length_push h.states) (omega arith); choices = omega arith; branches = omega arith }
 below_add h (choice bs) =
     record { states = omega arith; choices = rw (length_push h.choices) (omega arith); branches = rw (length-append h.branches bs) (omega arith) }
 below_add h nothing = record { states = omega arith; choices = omega arith; branches = omega arith }
 
-below_adds : (h : Held) (rs : List Content) → Within (counts_of h) (adds h rs)
+below_adds : (h : Held) (rs : List Content) → Within (filled_by h) (adds h rs)
 below_adds h [] = record { states = omega arith; choices = omega arith; branches = omega arith }
 below_adds h (r ∷ rs) =
     let one = below_add h (given r) in
@@ -94,38 +94,67 @@ next_none r s o e h =
     let t : Next r s (Ok None) = subst (λ (q : Option (ℕ × Record)). Next r s (Ok q)) e h in
     t.0 ∙ ap (λ (q : Reader). read [] (stopped q.at)) (sym t.1)
 
--- The reading `all` of a file, after the records ds, with `rest` still to be read.
-module _ (all : Reading) (ds : List Content) (rest : Reading) (come : all ≡ prefixed ds rest) where
-  pub all_come : records_of rest ≡ [] → ds ≡ records_of all
+-- What begins a model file has fewer than 65,536 states.
+few_states : (ds rest : List Content) (d : ℕ) (ss : List State) → ds ++ rest ≡ file_records d ss → AllFit ds → length (adds none ds).states < 65536
+few_states [] rest d ss e fit = omega arith
+few_states (r ∷ ds) rest d ss e fit =
+    let first : r ≡ md (length ss) d = cc in
+    let fits : Fits (md (length ss) d) = subst Fits first fit.0 in
+    let below = below_adds (adds none (r ∷ ds)) rest in
+    let whole = ap (λ (h : Held). length h.states) (sym (adds-append none (r ∷ ds) rest) ∙ ap (adds none) e ∙ file_adds d ss) in
+    omega (arith, fits.0, below, whole, length-state_rows 0 ss)
+
+true_few_states : (xs : List ℕ) (it : Reading) → True ModelFile xs 0 it → length (adds none (records_of it)).states < 65536
+true_few_states xs (read rs (stopped o)) t = few_states rs [] t.file.denominator t.file.states (append-nil rs ∙ t.file.shape) t.fit
+true_few_states xs (read rs (fault n o)) t =
+    let more = t.0.unfinished in
+    few_states rs (more.0 ∷ more.1.0) more.1.1.denominator more.1.1.states more.1.1.shape t.0.fit
+
+-- Of the reading `all` of a file, `rest` is still to be read: the records before it, and the count of their rows.
+pub record SoFar (all rest : Reading) (k : Filled) : Type 0 where
+  pub records : List Content
+  pub comes : all ≡ prefixed records rest
+  pub counts : k ≡ filled_by (adds none records)
+
+pub prefixed_none : (all : Reading) → all ≡ prefixed [] all
+prefixed_none (read rs e) = refl
+
+abbrev pub none_yet : (all : Reading) (k : Filled) → k ≡ filled_by none → SoFar all all k
+none_yet all k e = record { records = []; comes = prefixed_none all; counts = e }
+
+module _ (all rest : Reading) (k : Filled) (so : SoFar all rest k) where
+  pub all_come : records_of rest ≡ [] → so.records ≡ records_of all
   all_come none_left =
-      sym (ap records_of come ∙ prefixed_records ds rest ∙ ap (λ (rs : List Content). ds ++ rs) none_left ∙ append-nil ds)
+      sym (ap records_of so.comes ∙ prefixed_records so.records rest ∙ ap (λ (rs : List Content). so.records ++ rs) none_left ∙ append-nil so.records)
 
   -- one record more
   module _ (r : Content) (next : Reading) (step : rest ≡ prefixed (r ∷ []) next) where
-    pub come_next : all ≡ prefixed (ds ++ r ∷ []) next
-    come_next = come ∙ ap (prefixed ds) step ∙ prefixed_twice ds (r ∷ []) next
-
-    pub counts_next : (k : Counts) → k ≡ counts_of (adds none ds) → tally k (given r) ≡ counts_of (adds none (ds ++ r ∷ []))
-    counts_next k e = ap (λ (c : Counts). tally c (given r)) e ∙ tally_add (adds none ds) (given r) ∙ ap counts_of (sym (adds-append none ds (r ∷ [])))
+    abbrev pub so_far_next : SoFar all next (tally k (given r))
+    so_far_next =
+        record {
+          records = so.records ++ r ∷ [];
+          comes = so.comes ∙ ap (prefixed so.records) step ∙ prefixed_twice so.records (r ∷ []) next;
+          counts = ap (λ (c : Filled). tally c (given r)) so.counts ∙ tally_add (adds none so.records) (given r)
+              ∙ ap filled_by (sym (adds-append none so.records (r ∷ [])));
+        }
 
     -- what is counted with it is no more than what all records give
-    next_below : (k : Counts) → k ≡ counts_of (adds none ds) → Within (tally k (given r)) (adds none (records_of all))
-    next_below k e =
-        let h = adds none (ds ++ r ∷ []) in
-        let whole = ap (adds none) (ap records_of come_next ∙ prefixed_records (ds ++ r ∷ []) next) ∙ adds-append none (ds ++ r ∷ []) (records_of next) in
-        rw (counts_next k e, whole) (below_adds h (records_of next))
+    next_below : Within (tally k (given r)) (adds none (records_of all))
+    next_below =
+        let ds = so_far_next.records in
+        let whole = ap (adds none) (ap records_of so_far_next.comes ∙ prefixed_records ds next) ∙ adds-append none ds (records_of next) in
+        rw (so_far_next.counts, whole) (below_adds (adds none ds) (records_of next))
 
-    pub next_fits :
-        (W : List Content → Type 0) (xs : List ℕ) → True W xs 0 all → length xs < 2 ^ 64
-        → (k : Counts) → k ≡ counts_of (adds none ds) → CountsFit (tally k (given r))
-    next_fits W xs holds short k e =
-        let few = few_adds none 0 (length xs) (records_of all) (record { states = omega arith; choices = omega arith; branches = omega arith }) (omega (arith, true_within W xs all holds)) in
-        let part = next_below k e in
-        (omega (arith, few, part), omega (arith, few, part), omega (arith, few, part))
+    pub next_fits : (xs : List ℕ) → True ModelFile xs 0 all → length xs < 2 ^ 64 → CountsFit (tally k (given r))
+    next_fits xs holds short =
+        let few = few_adds none 0 (length xs) (records_of all) (record { states = omega arith; choices = omega arith; branches = omega arith }) (omega (arith, true_within ModelFile xs all holds)) in
+        let states = true_few_states xs all holds in
+        let part = next_below in
+        (omega (arith, states, part), omega (arith, few, part), omega (arith, few, part))
 
-    pub next_room : (k : Counts) → k ≡ counts_of (adds none ds) → (t : Tables) → Room (adds none (records_of all)) t → RoomFor (tally k (given r)) t
-    next_room k e t room =
-        let part = next_below k e in
+    pub next_room : (t : Tables) → Room (adds none (records_of all)) t → RoomFor (tally k (given r)) t
+    next_room t room =
+        let part = next_below in
         record { states = omega (arith, part, room); choices = omega (arith, part, room); branches = omega (arith, part, room) }
 
 -- The reading of a file is that of its records.
@@ -136,23 +165,23 @@ file_rows xs all exact file =
     ∙ file_adds file.denominator file.states
 
 -- how a reading ends: at a fault, or with the file
-module _ (xs : List ℕ) (all : Reading) (exact : Exactly ModelFile xs 0 all) (ds : List Content) (rest : Reading) (come : all ≡ prefixed ds rest) where
-  ended : (e : Ending) → rest ≡ read [] e → True ModelFile xs 0 (read (ds ++ []) e)
-  ended e end = subst (True ModelFile xs 0) (come ∙ ap (prefixed ds) end) exact.holds
+module _ (xs : List ℕ) (all : Reading) (exact : Exactly ModelFile xs 0 all) (rest : Reading) (k : Filled) (so : SoFar all rest k) where
+  ended : (e : Ending) → rest ≡ read [] e → True ModelFile xs 0 (read (so.records ++ []) e)
+  ended e end = subst (True ModelFile xs 0) (so.comes ∙ ap (prefixed so.records) end) exact.holds
 
   pub ends_at_fault : (n o : ℕ) → rest ≡ read [] (fault n o) → FirstFault ModelFile xs n o
-  ends_at_fault n o end = let t = ended (fault n o) end in inl (ds ++ [], t.0, t.1)
+  ends_at_fault n o end = let t = ended (fault n o) end in inl (so.records ++ [], t.0, t.1)
 
-  pub ends_with_file : (o : ℕ) → rest ≡ read [] (stopped o) → length xs ≤ o → (k : Counts) → k ≡ counts_of (adds none ds) → Counted xs (Ok k)
-  ends_with_file o end l k e =
-      let t : Reads ModelFile xs 0 o (ds ++ []) = ended (stopped o) end in
+  pub ends_with_file : (o : ℕ) → rest ≡ read [] (stopped o) → length xs ≤ o → Counted xs (Ok k)
+  ends_with_file o end l =
+      let t : Reads ModelFile xs 0 o (so.records ++ []) = ended (stopped o) end in
       let behind : o ≡ length xs = omega (arith, t.within) in
       let model = t.file in
       let file : FileOf xs =
       record {
         denominator = model.denominator;
         states = model.states;
-        reads = subst (λ (rs : List Content). Reads ModelFile xs 0 (length xs) rs) model.shape (subst (λ (b : ℕ). Reads ModelFile xs 0 b (ds ++ [])) behind t);
+        reads = subst (λ (rs : List Content). Reads ModelFile xs 0 (length xs) rs) model.shape (subst (λ (b : ℕ). Reads ModelFile xs 0 b (so.records ++ [])) behind t);
         ranges = model.ranges;
       } in
-      (file, e ∙ ap (λ (rs : List Content). counts_of (adds none rs)) (sym (append-nil ds) ∙ model.shape) ∙ ap counts_of (file_adds model.denominator model.states))
+      (file, so.counts ∙ ap (λ (rs : List Content). filled_by (adds none rs)) (sym (append-nil so.records) ∙ model.shape) ∙ ap filled_by (file_adds model.denominator model.states))

@@ -13,6 +13,7 @@ use Rattle.tables.specs.Rows.{rows_of}
 use Rattle.tables.specs.Said.{said}
 use Rattle.tables.specs.Tabled.{tabled}
 use Rattle.tables.specs.Alike.{Alike}
+use Rattle.filling.specs.declared.filling.Tables as lent
 use Rattle.filling.specs.declared.fault.FillFault.{FillFault}
 use Rattle.filling.specs.declared.fault.FillFault.TheVariants.{Reading, NoRoom}
 
@@ -27,7 +28,7 @@ pub record FileOf (xs : List ℕ) : Type 0 where
 abbrev pub rows_in : (xs : List ℕ) → FileOf xs → Held
 rows_in xs file = rows_of file.denominator file.states
 
--- the three tables of the caller
+-- what the three tables of the caller hold
 pub record Tables : Type 0 where
   pub states : List StateRow
   pub choices : List ChoiceRow
@@ -36,11 +37,15 @@ pub record Tables : Type 0 where
 abbrev pub tables : List StateRow → List ChoiceRow → List Branch → Tables
 tables ss cs bs = record { states = ss; choices = cs; branches = bs }
 
--- each table has room for its rows
-pub record Room (h : Held) (t : Tables) : Type 0 where
-  pub states : length h.states ≤ length t.states
-  pub choices : length h.choices ≤ length t.choices
-  pub branches : length h.branches ≤ length t.branches
+-- what the tables hold that a caller lent
+abbrev pub held_in : lent.Tables → Tables
+held_in t = tables t.states.now t.choices.now t.branches.now
+
+-- They are still the caller's slices, so that what they hold is what the caller finds there.
+pub record AreSameLoans (old new : lent.Tables) : Type 0 where
+  pub states : new.states.ghost_name ≡ old.states.ghost_name
+  pub choices : new.choices.ghost_name ≡ old.choices.ghost_name
+  pub branches : new.branches.ghost_name ≡ old.branches.ghost_name
 
 -- a table with rows at its front, and behind them what it held
 abbrev pub fronted : {X : Type 0} → List X → List X → List X
@@ -53,6 +58,16 @@ fronted_by h t = tables (fronted h.states t.states) (fronted h.choices t.choices
 abbrev pub filled_by : Held → Filled
 filled_by h =
     record { states = length h.states; denominator = h.denominator; choices = length h.choices; branches = length h.branches }
+
+-- the tables have room for so many rows
+pub record RoomFor (k : Filled) (t : Tables) : Type 0 where
+  pub states : k.states ≤ length t.states
+  pub choices : k.choices ≤ length t.choices
+  pub branches : k.branches ≤ length t.branches
+
+-- the tables have room for the rows h
+abbrev pub Room : Held → Tables → Type 0
+Room h t = RoomFor (filled_by h) t
 
 -- The tables hold the file's rows, and past them what they held; the filled rows answer as the file says.
 pub record Filling (xs : List ℕ) (old new : Tables) (f : Filled) : Type 0 where

@@ -33,7 +33,7 @@ add h (head d) = record { denominator = d; states = h.states; choices = h.choice
 add h (state g k) =
     record {
       denominator = h.denominator;
-      states = h.states ++ record { goal = (g == 1); first = length h.choices; choices = k } ∷ [];
+      states = h.states ++ record { goal = g == 1; first = length h.choices; choices = k } ∷ [];
       choices = h.choices;
       branches = h.branches;
     }

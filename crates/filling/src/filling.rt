@@ -1,92 +1,85 @@
 // A file is read twice: first to count its rows, and then, where there is room for them, to write them.
-ghost use Rattle.std.specs.Prelude.{◌≡◌, Ok, Decides};
-ghost use Rattle.filling.specs.Counted.{Counted};
-ghost use Rattle.filling.specs.Fills.{FileOf, rows_in, tables, Room, fronted_by, Filling, Fills};
-ghost use Rattle.filling.specs.Placed.{RoomFor};
+ghost use Rattle.std.specs.Prelude.{◌≡◌, Decides};
+ghost use Rattle.records.specs.Held.{content};
+ghost use Rattle.filling.specs.Counted.{tally};
+ghost use Rattle.filling.specs.Fills.{FileOf, rows_in, held_in, AreSameLoans, RoomFor, Room, Filling, Fills};
+ghost use Rattle.filling.specs.Giving.{given};
+ghost use Rattle.filling.specs.Placed.{Placed};
 
-use crate::counts::Counts;
+use crate::counting::{count, tally};
 use crate::fault::FillFault;
-use crate::placing::put;
-use reader::{ReadFault, Reader};
-use records::Branch;
+use crate::placing::put_branches;
+use reader::Reader;
+use records::{Branch, Record};
 use tables::{ChoiceRow, Filled, StateRow};
 
-// The rows of a file, counted before anything is written; a file that is refused is refused here.
-fn count(bytes: &[u8]) -> Result<Counts, ReadFault>
-    ensures { Counted bytes.now result }
-{
-    let mut reader = Reader::model_file(bytes, 0);
-    let mut counts = Counts::none();
-    while let Some((_, item)) = reader.next()? {
-        counts = counts.with(item);
-    }
-    let behind = reader.offset();
-    if behind < bytes.len() {
-        return Err(ReadFault::Surplus(behind));
-    }
-    Ok(counts)
+// The three tables that a caller lends.
+#[derive(Drop)]
+pub struct Tables<'a> {
+    pub states: &'a mut [StateRow],
+    pub choices: &'a mut [ChoiceRow],
+    pub branches: &'a mut [Branch],
 }
 
-// The rows of a file, into tables that have room for them.
-fn write_rows(
-    bytes: &[u8],
-    states: &mut [StateRow],
-    choices: &mut [ChoiceRow],
-    branches: &mut [Branch],
-)
-    requires { (file : FileOf bytes.now) × Room (rows_in bytes.now file) (tables states.old choices.old branches.old) }
-    ensures { (file : FileOf bytes.now) → tables states.new choices.new branches.new ≡ fronted_by (rows_in bytes.now file) (tables states.old choices.old branches.old) }
-{
-    let mut reader = Reader::model_file(bytes, 0);
-    let mut counts = Counts::none();
-    while let Some(item) = reader.next_record() {
-        put(item, counts, states, choices, branches);
-        counts = counts.with(item);
+impl Tables<'_> {
+    // The tables are filled from a model file. What stands behind the filled rows stays as it was, and on a refusal all does.
+    pub fn fill(&mut self, bytes: &[u8]) -> Result<Filled, FillFault>
+        ensures named { AreSameLoans self.old self.new }
+        ensures value { Fills bytes.now (held_in self.old) (held_in self.new) result }
+    {
+        let counts = count(bytes)?;
+        if !self.has_room(counts) {
+            return Err(FillFault::NoRoom);
+        }
+        Ok(self.write_rows(bytes))
     }
-}
 
-// Whether each table has room for its rows.
-fn has_room(counts: Counts, states: &[StateRow], choices: &[ChoiceRow], branches: &[Branch]) -> bool
-    ensures { Decides result (RoomFor counts (tables states.now choices.now branches.now)) }
-{
-    counts.states <= states.len()
-        && counts.choices <= choices.len()
-        && counts.branches <= branches.len()
-}
-
-// The rows that were counted, into tables that have room for them.
-fn write(
-    bytes: &[u8],
-    counts: Counts,
-    states: &mut [StateRow],
-    choices: &mut [ChoiceRow],
-    branches: &mut [Branch],
-) -> Filled
-    requires counted { Counted bytes.now (Ok counts) }
-    requires room { RoomFor counts (tables states.old choices.old branches.old) }
-    ensures { Filling bytes.now (tables states.old choices.old branches.old) (tables states.new choices.new branches.new) result }
-{
-    write_rows(bytes, states, choices, branches);
-    Filled {
-        states: counts.states as u16,
-        denominator: counts.denominator,
-        choices: counts.choices,
-        branches: counts.branches,
+    // Whether each table has room for its rows.
+    fn has_room(&self, counts: Filled) -> bool
+        ensures { Decides result (RoomFor counts (held_in self.now)) }
+    {
+        usize::from(counts.states) <= self.states.len()
+            && counts.choices <= self.choices.len()
+            && counts.branches <= self.branches.len()
     }
-}
 
-// The tables are filled from a model file. What stands behind the filled rows stays as it was, and on a refusal all does.
-pub fn fill(
-    bytes: &[u8],
-    states: &mut [StateRow],
-    choices: &mut [ChoiceRow],
-    branches: &mut [Branch],
-) -> Result<Filled, FillFault>
-    ensures { Fills bytes.now (tables states.old choices.old branches.old) (tables states.new choices.new branches.new) result }
-{
-    let counts = count(bytes)?;
-    if !has_room(counts, states, choices, branches) {
-        return Err(FillFault::NoRoom);
+    // The rows of a file, into tables that have room for them, and how much is filled.
+    fn write_rows(&mut self, bytes: &[u8]) -> Filled
+        requires { (file : FileOf bytes.now) × Room (rows_in bytes.now file) (held_in self.old) }
+        ensures named { AreSameLoans self.old self.new }
+        ensures value { Filling bytes.now (held_in self.old) (held_in self.new) result }
+    {
+        let mut reader = Reader::model_file(bytes, 0);
+        let mut filled = Filled::default();
+        while let Some(item) = reader.next_record() {
+            self.put(filled, item);
+            filled = tally(filled, item);
+        }
+        filled
     }
-    Ok(write(bytes, counts, states, choices, branches))
+
+    // The rows of a record, behind those that are filled.
+    fn put(&mut self, filled: Filled, item: Record<'_>)
+        requires { RoomFor (tally filled (given (content item))) (held_in self.old) }
+        ensures named { AreSameLoans self.old self.new }
+        ensures rows { Placed filled (given (content item.entry)) (held_in self.old) (held_in self.new) }
+    {
+        match item {
+            Record::St { goal, choices } => {
+                self.states[usize::from(filled.states)] = StateRow {
+                    goal: goal == 1,
+                    first: filled.choices,
+                    choices,
+                };
+            }
+            Record::Ch { entries } => {
+                self.choices[filled.choices] = ChoiceRow {
+                    first: filled.branches,
+                    branches: entries.len() / 4,
+                };
+                put_branches(self.branches, filled.branches, entries);
+            }
+            _ => {}
+        }
+    }
 }

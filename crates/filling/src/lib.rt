@@ -1,10 +1,10 @@
 // Filling: the rows of a table, out of a model file.
 #![tactic(auto)]
 
-mod counts;
+mod counting;
 mod fault;
 mod filling;
 mod placing;
 
 pub use fault::FillFault;
-pub use filling::fill;
+pub use filling::Tables;

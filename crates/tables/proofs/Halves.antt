@@ -1,43 +1,38 @@
 -- The search by halves: its steps, and that among ascending targets it finds what is there.
-use Rattle.std.proofs.Common.{◌≡◌, ℕ, zero, suc, ◌+◌, ◌-◌, ◌/◌, ◌<◌, ◌≤◌, true, ltb, leb, List, [], ◌∷◌, ◌++◌, length, take, drop, sym, refl, ap, ◌∙◌, inl, inr, arith}
+use Rattle.std.proofs.Common.{◌≡◌, ℕ, zero, suc, ◌+◌, ◌-◌, ◌/◌, ◌<◌, ◌≤◌, true, ltb, leb, List, [], ◌∷◌, ◌++◌, length, take, drop, Some, None, Ordering, Less, Equal, Greater, nat_cmp, sym, refl, ap, ◌∙◌, inl, inr, arith}
 use Rattle.std.proofs.lemmas.List.{append-nil, length-take-le, length-drop, drop_more, take-append-drop}
 use Rattle.std.proofs.lemmas.Bool.{cases_order, eq-eqb, ne_eqb, lt-ltb, le-ltb, le-leb, and_parts, leb-true, ltb-true}
+use Rattle.std.specs.Ordering.{MatchOrdering}
+use Rattle.std.proofs.lemmas.Cmp.{ranked}
+use Rattle.std.specs.Cmp.{nat_cmp_is}
+use Rattle.std.specs.Prelude.{Option, unwrap_or}
 use Rattle.records.specs.declared.content.Branch.{Branch}
 use Rattle.grammar.specs.ModelFile.{branches_ok}
 use Rattle.tables.specs.Said.{weight_among}
 use Rattle.tables.specs.Halves.{no_branch, middle, halved, found}
 
--- the steps of the search
-pub halved_none : (f t : ℕ) (bs : List Branch) → length bs ≡ 0 → halved f bs t ≡ 0
+-- nothing is found among no branches
+pub halved_none : (f t : ℕ) (bs : List Branch) → length bs ≡ 0 → halved f bs t ≡ None
 halved_none zero t bs e = refl
 halved_none (suc f) t [] e = refl
-halved_none (suc f) t (b ∷ bs) e = absurd (let z : ⊥ = omega arith in z)
+halved_none (suc f) t (b ∷ bs) e = absurd (omega arith)
 
-pub halved_here :
-    (f t : ℕ) (bs : List Branch) → length bs ≤ f → 0 < length bs → (middle bs).target ≡ t
-    → halved f bs t ≡ (middle bs).weight
-halved_here zero t bs l p e = absurd (let z : ⊥ = omega arith in z)
-halved_here (suc f) t [] l p e = absurd (let z : ⊥ = omega arith in z)
-halved_here (suc f) t (b ∷ bs) l p e = rw (eq-eqb (middle (b ∷ bs)).target t e) refl
-
-pub halved_behind :
-    (f t : ℕ) (bs : List Branch) → length bs ≤ f → 0 < length bs → (middle bs).target < t
-    → halved f bs t ≡ halved (f - 1) (drop (length bs / 2 + 1) bs) t
-halved_behind zero t bs l p e = absurd (let z : ⊥ = omega arith in z)
-halved_behind (suc f) t [] l p e = absurd (let z : ⊥ = omega arith in z)
-halved_behind (suc f) t (b ∷ bs) l p e =
+-- a step of the search, by how the branch b in the middle stands to the target
+pub halved_step :
+    (f t : ℕ) (bs : List Branch) (b : Branch) (o : Ordering) → length bs ≤ f → 0 < length bs → b ≡ middle bs → o ≡ nat_cmp b.target t
+    → MatchOrdering o (halved f bs t ≡ halved (f - 1) (drop (length bs / 2 + 1) bs) t) (halved f bs t ≡ Some b.weight)
+    (halved f bs t ≡ halved (f - 1) (take (length bs / 2) bs) t)
+halved_step zero t bs b o l p e h = absurd (omega arith)
+halved_step (suc f) t [] b o l p e h = absurd (omega arith)
+halved_step (suc f) t (x ∷ bs) b Less l p e h =
+    let low : b.target < t = ranked b.target t Less h in
     let fuel : suc f - 1 ≡ f = omega arith in
-    rw (fuel, ne_eqb (middle (b ∷ bs)).target t (λ z. omega arith), lt-ltb (middle (b ∷ bs)).target t e) refl
-
-pub halved_before :
-    (f t : ℕ) (bs : List Branch) → length bs ≤ f → 0 < length bs → t < (middle bs).target
-    → halved f bs t ≡ halved (f - 1) (take (length bs / 2) bs) t
-halved_before zero t bs l p e = absurd (let z : ⊥ = omega arith in z)
-halved_before (suc f) t [] l p e = absurd (let z : ⊥ = omega arith in z)
-halved_before (suc f) t (b ∷ bs) l p e =
+    rw (fuel, ← e, ne_eqb b.target t (λ z. omega arith), lt-ltb b.target t low) refl
+halved_step (suc f) t (x ∷ bs) b Equal l p e h = rw (← e, eq-eqb b.target t (ranked b.target t Equal h)) refl
+halved_step (suc f) t (x ∷ bs) b Greater l p e h =
+    let high : t < b.target = ranked b.target t Greater h in
     let fuel : suc f - 1 ≡ f = omega arith in
-    let low : t ≤ (middle (b ∷ bs)).target = omega arith in
-    rw (fuel, ne_eqb (middle (b ∷ bs)).target t (λ z. omega arith), le-ltb (middle (b ∷ bs)).target t low) refl
+    rw (fuel, ← e, ne_eqb b.target t (λ z. omega arith), le-ltb b.target t (omega arith)) refl
 
 -- what the ranges of branches say of the first
 ok_parts :
@@ -120,9 +115,9 @@ split : (bs : List Branch) → 0 < length bs → bs ≡ take (length bs / 2) bs 
 split bs p =
     sym (take-append-drop (length bs / 2) bs) ∙ ap (λ (cs : List Branch). take (length bs / 2) bs ++ cs) (drop_more bs (length bs / 2) no_branch (omega arith))
 
-halved_finds : (f n least t : ℕ) (bs : List Branch) → length bs ≤ f → branches_ok n least bs ≡ true → halved f bs t ≡ weight_among bs t
+halved_finds : (f n least t : ℕ) (bs : List Branch) → length bs ≤ f → branches_ok n least bs ≡ true → unwrap_or (halved f bs t) 0 ≡ weight_among bs t
 halved_finds zero n least t [] l ok = refl
-halved_finds zero n least t (b ∷ bs) l ok = absurd (let z : ⊥ = omega arith in z)
+halved_finds zero n least t (b ∷ bs) l ok = absurd (omega arith)
 halved_finds (suc f) n least t [] l ok = refl
 halved_finds (suc f) n least t (b ∷ bs) l ok =
     let all = b ∷ bs in
@@ -133,20 +128,20 @@ halved_finds (suc f) n least t (b ∷ bs) l ok =
     let fine : branches_ok n least (before ++ middle all ∷ behind) ≡ true = ap (branches_ok n least) (sym parts) ∙ ok in
     let whole = ap (λ (cs : List Branch). weight_among cs t) parts in
     let fuel : suc f - 1 ≡ f = omega arith in
+    let weight = λ (o : Option ℕ). unwrap_or o 0 in
+    let step = λ (o : Ordering) (h : o ≡ nat_cmp (middle all).target t). halved_step (suc f) t all (middle all) o l (omega arith) refl h in
     elim (cases_order (middle all).target t) [
-      | inl e ↦ halved_here (suc f) t all l (omega arith) e ∙ sym (whole ∙ found_here n least t before (middle all) behind fine e)
+      | inl e ↦ ap weight (step Equal (nat_cmp_is (middle all).target t Equal e)) ∙ sym (whole ∙ found_here n least t before (middle all) behind fine e)
       | inr (inl u) ↦
-          halved_behind (suc f) t all l (omega arith) u
-          ∙ ap (λ k. halved k behind t) fuel
+          ap weight (step Less (nat_cmp_is (middle all).target t Less u) ∙ ap (λ k. halved k behind t) fuel)
           ∙ halved_finds f n ((middle all).target + 1) t behind (omega (arith, length-drop (half + 1) all)) (ok_behind n least before (middle all) behind fine)
           ∙ sym (whole ∙ found_behind n least t before (middle all) behind fine u)
       | inr (inr u) ↦
-          halved_before (suc f) t all l (omega arith) u
-          ∙ ap (λ k. halved k before t) fuel
+          ap weight (step Greater (nat_cmp_is (middle all).target t Greater u) ∙ ap (λ k. halved k before t) fuel)
           ∙ halved_finds f (middle all).target least t before (omega (arith, length-take-le half all (omega arith))) (ok_before n least before (middle all) behind fine)
           ∙ sym (whole ∙ found_before n least t before (middle all) behind fine u)
     ]
 
 -- among ascending targets the search by halves finds what is there
-pub found_among : (n least t : ℕ) (bs : List Branch) → branches_ok n least bs ≡ true → found bs t ≡ weight_among bs t
+pub found_among : (n least t : ℕ) (bs : List Branch) → branches_ok n least bs ≡ true → unwrap_or (found bs t) 0 ≡ weight_among bs t
 found_among n least t bs ok = halved_finds (length bs) n least t bs (omega arith) ok

@@ -2,6 +2,7 @@
 use Rattle.std.proofs.Common.{◌≡◌, ℕ, zero, suc, ◌+◌, true, cond, eqb, ltb, List, [], ◌∷◌, ◌++◌, length, get_or, take, drop, sym, refl, ap, ◌∙◌, inl, inr, append_assoc, arith}
 use Rattle.std.proofs.lemmas.List.{length-append, get_or_past, get_or-take, get_or-drop, take_at, drop_at, length-take}
 use Rattle.std.proofs.lemmas.Bool.{cases_lt, lt-ltb, le-ltb, cond-true, cond-false}
+use Rattle.std.specs.Prelude.{unwrap_or}
 use Rattle.records.specs.declared.content.Branch.{Branch}
 use Rattle.grammar.specs.ModelFile.{State, branches_ok, ChoicesOk, StatesOk}
 use Rattle.tables.specs.Said.{no_state, said}
@@ -85,10 +86,10 @@ weight_rows d ss ok s c t =
     let n = length (state_rows 0 ss) in
     let own = get_or (get_or ss s no_state).choices c [] in
     let fine = choice_ok (length ss) (get_or ss s no_state).choices (state_ok (length ss) ss ok s) c in
-    ap (λ (bs : List Branch). cond (ltb t n) (found bs t) 0) (branches_rows ss s c)
+    ap (λ (bs : List Branch). cond (ltb t n) (unwrap_or (found bs t) 0) 0) (branches_rows ss s c)
     ∙ elim (cases_lt t n) [
-      | inl l ↦ cond-true (ltb t n) (found own t) 0 (lt-ltb t n l) ∙ found_among (length ss) 0 t own fine
-      | inr l ↦ cond-false (ltb t n) (found own t) 0 (le-ltb t n l) ∙ sym (among_past (length ss) 0 t own fine (omega (arith, length-state_rows 0 ss)))
+      | inl l ↦ cond-true (ltb t n) (unwrap_or (found own t) 0) 0 (lt-ltb t n l) ∙ found_among (length ss) 0 t own fine
+      | inr l ↦ cond-false (ltb t n) (unwrap_or (found own t) 0) 0 (le-ltb t n l) ∙ sym (among_past (length ss) 0 t own fine (omega (arith, length-state_rows 0 ss)))
     ]
 
 pub rows_say : (d : ℕ) (ss : List State) → StatesOk (length ss) ss → Alike (tabled (rows_of d ss)) (said d ss)

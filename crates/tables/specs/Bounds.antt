@@ -1,5 +1,5 @@
 -- The model that rows hold has no weight outside.
-use Rattle.std.specs.Prelude.{◌≡◌, ℕ, Bool, true, false, cond, length, drop, nat_lt, refl}
+use Rattle.std.specs.Prelude.{◌≡◌, ℕ, Bool, true, false, cond, length, drop, nat_lt, unwrap_or, refl}
 use Rattle.std.proofs.Common.{ap, ◌∙◌, arith}
 use Rattle.std.proofs.lemmas.List.{get_or_past, length-take}
 use Rattle.std.proofs.lemmas.Bool.{le-ltb, cond-false}
@@ -22,7 +22,7 @@ bounded h =
       past = λ s c t l.
           let own = own_choices h.choices (state_at h.states s) in
           let few = length-take (state_at h.states s).choices (drop (state_at h.states s).first h.choices) in
-          ap (λ (x : ChoiceRow). cond (nat_lt t (length h.states)) (found (own_branches h.branches x) t) 0) (get_or_past own c _ (omega arith))
+          ap (λ (x : ChoiceRow). cond (nat_lt t (length h.states)) (unwrap_or (found (own_branches h.branches x) t) 0) 0) (get_or_past own c _ (omega arith))
           ∙ cond_none (nat_lt t (length h.states));
       targets = λ s c t l. cond-false (nat_lt t (length h.states)) _ 0 (le-ltb t (length h.states) l);
     }

@@ -19,7 +19,7 @@ all_branches cs = flat_map (λ (c : List Branch). c) cs
 abbrev pub state_rows : ℕ → List State → List StateRow
 state_rows first [] = []
 state_rows first (s ∷ ss) =
-    record { goal = (s.goal == 1); first = first; choices = length s.choices } ∷ state_rows (first + length s.choices) ss
+    record { goal = s.goal == 1; first = first; choices = length s.choices } ∷ state_rows (first + length s.choices) ss
 
 -- a row for each choice; `first` branches come before its own
 abbrev pub choice_rows : ℕ → List (List Branch) → List ChoiceRow

@@ -19,7 +19,7 @@ said denominator states =
     record {
       states = length states;
       denominator = denominator;
-      goal = λ s. ((slice_index_or states s no_state).goal == 1);
+      goal = λ s. (slice_index_or states s no_state).goal == 1;
       choices = λ s. length (slice_index_or states s no_state).choices;
       weight = λ s c t. weight_among (slice_index_or (slice_index_or states s no_state).choices c []) t;
     }

@@ -1,5 +1,5 @@
 -- The model that rows hold, whatever rows they are.
-use Rattle.std.specs.Prelude.{ℕ, false, cond, List, length, take, drop, nat_lt, slice_index_or}
+use Rattle.std.specs.Prelude.{ℕ, false, cond, List, length, take, drop, nat_lt, slice_index_or, unwrap_or}
 use Rattle.mdp.specs.Model.{Model}
 use Rattle.records.specs.declared.content.Branch.{Branch}
 use Rattle.tables.specs.declared.rows.StateRow.{StateRow}
@@ -21,6 +21,10 @@ own_choices cs s = take s.choices (drop s.first cs)
 abbrev pub own_branches : List Branch → ChoiceRow → List Branch
 own_branches bs c = take c.branches (drop c.first bs)
 
+-- the branches of choice c of state s; none where there is no such choice
+abbrev pub branches_of : Held → ℕ → ℕ → List Branch
+branches_of h s c = own_branches h.branches (choice_at (own_choices h.choices (state_at h.states s)) c)
+
 -- Only states of the model are targets.
 abbrev pub tabled : Held → Model
 tabled h =
@@ -30,5 +34,5 @@ tabled h =
       goal = λ s. (state_at h.states s).goal;
       choices = λ s. (state_at h.states s).choices;
       weight = λ s c t.
-          cond (nat_lt t (length h.states)) (found (own_branches h.branches (choice_at (own_choices h.choices (state_at h.states s)) c)) t) 0;
+          cond (nat_lt t (length h.states)) (unwrap_or (found (branches_of h s c) t) 0) 0;
     }

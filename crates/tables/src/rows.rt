@@ -1,10 +1,11 @@
 // The rows that a table rests on. Those of its third part, the branches of the choices, are the branches of the records.
-ghost use Rattle.std.specs.Prelude.{◌≡◌, ◌^◌, ◌<◌, length, take, drop};
+ghost use Rattle.std.specs.Prelude.{◌≡◌, take, drop};
 ghost use Rattle.tables.specs.Held.{Held};
+ghost use Rattle.tables.specs.Lent.{held_by};
 
-use records::Branch;
+use crate::lent::Lent;
 
-#[derive(Clone, Copy)]
+#[derive(Clone, Copy, Default)]
 pub struct StateRow {
     pub goal: bool,
     // Where its choices begin among the choices.
@@ -12,7 +13,7 @@ pub struct StateRow {
     pub choices: u16,
 }
 
-#[derive(Clone, Copy)]
+#[derive(Clone, Copy, Default)]
 pub struct ChoiceRow {
     // Where its branches begin among the branches.
     pub first: usize,
@@ -20,7 +21,7 @@ pub struct ChoiceRow {
 }
 
 // How many rows of each part are filled, and the model's denominator.
-#[derive(Clone, Copy)]
+#[derive(Clone, Copy, Default)]
 pub struct Filled {
     pub states: u16,
     pub denominator: u16,
@@ -28,34 +29,18 @@ pub struct Filled {
     pub branches: usize,
 }
 
-// What gives a table its rows. They may be any rows. A table holds no slices itself, since a source's type may have no lifetime: its law
-// would not be proved.
+// What lends a table its rows. They may be any rows.
 pub trait Rows {
     ghost held: { Self → Held };
 
-    fn denominator(&self) -> u16
-        ensures { result ≡ (held self.now).denominator };
-
-    fn states(&self) -> &[StateRow]
-        ensures rows { result.now ≡ (held self.now).states }
-        ensures few { length result.now < 2 ^ 16 };
-
-    fn choices(&self) -> &[ChoiceRow]
-        ensures { result.now ≡ (held self.now).choices };
-
-    fn branches(&self) -> &[Branch]
-        ensures { result.now ≡ (held self.now).branches };
+    fn lent(&self) -> Lent<'_>
+        ensures { held_by result ≡ held self.now };
 }
 
 // So many rows from the first on; fewer where there are no more.
-pub(crate) fn part<'a, R>(rows: &'a [R], first: usize, count: usize) -> &'a [R]
+pub(crate) fn part<R>(rows: &[R], first: usize, count: usize) -> &[R]
     ensures { result.now ≡ take count (drop first rows.now) }
 {
-    if first > rows.len() {
-        return &rows[rows.len()..];
-    }
-    if count > rows.len() - first {
-        return &rows[first..];
-    }
-    &rows[first..first + count]
+    let rest = rows.get(first..).unwrap_or(&[]);
+    &rest[..count.min(rest.len())]
 }

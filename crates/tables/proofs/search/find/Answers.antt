@@ -1,33 +1,38 @@
-use Rattle.std.proofs.Common.{◌+◌, ◌-◌, ◌/◌, length, sym, refl, ◌∙◌, arith, rules}
+use Rattle.std.proofs.Common.{◌+◌, ◌-◌, ◌/◌, length, Less, Equal, Greater, sym, ◌∙◌, arith}
 use Rattle.std.proofs.lemmas.List.{take_rest, length-drop, length-take-le}
-use Rattle.tables.proofs.Halves.{halved_none, halved_here, halved_behind, halved_before}
+use Rattle.tables.specs.Halves.{no_branch}
+use Rattle.tables.proofs.Halves.{halved_none, halved_step}
 use Rattle.tables.proofs.search.find.Goals as goal
 
-pub loop-rest-init : goal.loop-rest-init
-loop-rest-init c = (omega arith, (length c.args.branches.now, omega arith, refl))
+pub returns-in-Equal : goal.returns-in-Equal
+returns-in-Equal c =
+    let fuel = c.loop-middle.invariant.1 in
+    let it = c.in-Some.ensures.lookup in
+    let order = rw c.from.ensures at c.in-Equal.ensures in
+    sym (fuel.2 ∙ halved_step fuel.0 c.args.target c.loop-middle.rest.now c.in-Some.middle.now Equal fuel.1 (omega (arith, it.3.0)) (it.4 (omega arith) no_branch) order)
 
-pub returns-then-middle-target : goal.returns-then-middle-target
-returns-then-middle-target c =
-    let fuel = c.loop-rest.invariant.1 in
-    sym (fuel.2 ∙ halved_here fuel.0 c.args.target c.loop-rest.rest.now fuel.1 (omega arith) (search rules))
-
-pub loop-rest-preserved-then-middle-target-2 : goal.loop-rest-preserved-then-middle-target-2
-loop-rest-preserved-then-middle-target-2 c =
-    let rest = c.loop-rest.rest.now in
-    let fuel = c.loop-rest.invariant.1 in
+pub loop-middle-preserved-in-Less : goal.loop-middle-preserved-in-Less
+loop-middle-preserved-in-Less c =
+    let rest = c.loop-middle.rest.now in
+    let fuel = c.loop-middle.invariant.1 in
+    let it = c.in-Some.ensures.lookup in
+    let order = rw c.from.ensures at c.in-Less.ensures in
+    let step = halved_step fuel.0 c.args.target rest c.in-Some.middle.now Less fuel.1 (omega (arith, it.3.0)) (it.4 (omega arith) no_branch) order in
     let past = length rest / 2 + 1 in
     let size = length-drop past rest in
-    rw (take_rest rest past)
-    (omega arith, (fuel.0 - 1, omega (arith, fuel.1), fuel.2 ∙ halved_behind fuel.0 c.args.target rest fuel.1 (omega arith) (search rules)))
+    rw (take_rest rest past) (omega arith, (fuel.0 - 1, omega (arith, fuel.1, it.3.0), fuel.2 ∙ step))
 
-pub loop-rest-preserved : goal.loop-rest-preserved
-loop-rest-preserved c =
-    let rest = c.loop-rest.rest.now in
-    let fuel = c.loop-rest.invariant.1 in
-    let size = length-take-le (length rest / 2) rest (omega arith) in
-    (omega arith, (fuel.0 - 1, omega (arith, fuel.1), fuel.2 ∙ halved_before fuel.0 c.args.target rest fuel.1 (omega arith) (omega arith)))
+pub loop-middle-preserved : goal.loop-middle-preserved
+loop-middle-preserved c =
+    let rest = c.loop-middle.rest.now in
+    let fuel = c.loop-middle.invariant.1 in
+    let it = c.in-Some.ensures.lookup in
+    let order = rw c.from.ensures at c.in-Greater.ensures in
+    let step = halved_step fuel.0 c.args.target rest c.in-Some.middle.now Greater fuel.1 (omega (arith, it.3.0)) (it.4 (omega arith) no_branch) order in
+    let size = length-take-le (length rest / 2) rest (omega (arith, it.3.0)) in
+    (omega arith, (fuel.0 - 1, omega (arith, fuel.1, it.3.0), fuel.2 ∙ step))
 
 pub returns : goal.returns
 returns c =
-    let fuel = c.loop-rest.invariant.1 in
-    sym (fuel.2 ∙ halved_none fuel.0 c.args.target c.loop-rest.rest.now (omega arith))
+    let fuel = c.loop-middle.invariant.1 in
+    sym (fuel.2 ∙ halved_none fuel.0 c.args.target c.loop-middle.rest.now (omega (arith, c.in_default.ensures.lookup.3)))
