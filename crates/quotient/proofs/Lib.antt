@@ -1,4 +1,4 @@
-mod Filled
 mod Lawfulness
 mod ByClass
 pub mod Quotients
+mod Below
