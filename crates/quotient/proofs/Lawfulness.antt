@@ -24,9 +24,9 @@ same_count m cls listed r k h w =
 
 -- a list whose classes all occur and whose classmates agree is lawful, and no other
 pub counted :
-    (m : Model) (cls : ℕ → ℕ) (listed n r : ℕ) (b : Bool) → n ≡ m.states → listed ≡ n → 1 ≤ n → n ≤ 256 → OneAbove cls listed r
-    → Decides b (((a : ℕ) → a < r → Occurs cls listed a) × ((s : ℕ) → s < n → Agrees m cls n s)) → Counts m cls listed (then_some b r)
-counted m cls listed n r true e f low high h d =
+    (m : Model) (cls : ℕ → ℕ) (listed r : ℕ) (b : Bool) → listed ≡ m.states → 1 ≤ listed → listed ≤ 256 → OneAbove cls listed r
+    → Decides b (((a : ℕ) → a < r → Occurs cls listed a) × ((s : ℕ) → s < listed → Agrees m cls listed s)) → Counts m cls listed (then_some b r)
+counted m cls listed r true e low high h d =
     let p = d.0 refl in
     record {
       every = λ k w. ap Some (same_count m cls listed r k h w);
@@ -34,21 +34,21 @@ counted m cls listed n r true e f low high h d =
           record {
             some_states = omega arith;
             few_states = omega arith;
-            whole = omega arith;
+            whole = e;
             within = λ s l. h.0 s (omega arith);
-            occur = λ a l. occurs_below cls listed m.states a (omega arith) (p.0 a l);
+            occur = λ a l. occurs_below cls listed m.states a e (p.0 a l);
             agree = λ s l t k. p.1 s (omega arith) t (omega arith);
           };
     }
-counted m cls listed n r false e f low high h d =
+counted m cls listed r false e low high h d =
     record {
       every = λ k w.
           let same : r ≡ k = same_count m cls listed r k h w in
           absurd
           (false≢true
           (d.1 (
-            λ a l. occurs_below cls m.states listed a (omega (arith, w.whole)) (w.occur a (omega arith)),
-            λ s l t j. w.agree s (omega (arith, e)) t (omega (arith, e)),
+            λ a l. occurs_below cls m.states listed a (sym e) (w.occur a (omega arith)),
+            λ s l t k. w.agree s (omega (arith, e)) t (omega (arith, e)),
           )));
       holds = tt;
     }

@@ -75,11 +75,13 @@ some_owner m cls a c (suc n) t l =
 into_whole :
     (m : Model) (cls : ℕ → ℕ) (s d b : ℕ) → Sound m → s < m.states → d < m.choices s
     → into m cls s d b ≡ into_to m cls s d b m.states
+unfolding into
 into_whole m cls s d b h l k =
     omega (arith, h.full s d l k, h.few_denominator, class_few cls b m.states (m.weight s d))
 
 -- no choice of a class is cut off
 choices_whole : (m : Model) (cls : ℕ → ℕ) (a : ℕ) → Sound m → choices_of m cls a ≡ before m cls a m.states
+unfolding choices_of
 choices_whole m cls a h = omega (arith, class_few cls a m.states m.choices, h.few_choices)
 
 -- the weight of a choice of the quotient, by the choice of the state
@@ -106,7 +108,7 @@ full_quotient :
     (m : Model) (cls : ℕ → ℕ) (listed count a c : ℕ) → Sound m → Lawful m cls listed count → a < count
     → c < choices_of m cls a → sum count ((quotient m cls count).weight a c) ≡ m.denominator
 full_quotient m cls listed count a c h k la r =
-    let o = some_owner m cls a c m.states (omega arith) (omega arith) in
+    let o = some_owner m cls a c m.states (omega arith) (omega (arith, choices_whole m cls a h)) in
     let s = o.0.state in
     let d = o.0.number in
     sum_same count ((quotient m cls count).weight a c) (λ b. into_to m cls s d b m.states)
@@ -135,7 +137,7 @@ quotient_sound m cls listed count h k =
       few_choices =
           omega (
             arith,
-            sum_le count (quotient m cls count).choices (λ a. before m cls a m.states) (λ a la. omega (arith, here a la)),
+            sum_le count (quotient m cls count).choices (λ a. before m cls a m.states) (λ a la. omega (arith, here a la, choices_whole m cls a h)),
             all_classes cls m.states count m.choices k.within,
             h.few_choices,
           );
@@ -183,31 +185,23 @@ quotient_matched m cls listed count h k =
           ];
     }
 
--- what a class of the layer answers is what the layer answers
-pub choices_of_layer :
-    (m m₁ : Model) (classes : Option Classes) (k₁ : Classes) (a a₁ r : ℕ) → (m₁ ≡ m) × (classes ≡ Some k₁) × (a₁ ≡ a)
-    → a < (layer m classes).states → r ≡ choices_of m₁ (entry k₁.of_state) a₁ → r ≡ (layer m classes).choices a
-choices_of_layer m m₁ classes k₁ a a₁ r e l h =
-    rw e.1
-    ((rw (e.0, e.2) at h) ∙ sym (cond-true (ltb a k₁.count) (choices_of m (entry k₁.of_state) a) 0 (lt-ltb a k₁.count (rw e.1 at l))))
+-- the weight of a choice of a class, by the choice of the state
+pub weight_there :
+    (m : Model) (cls : ℕ → ℕ) (a c b : ℕ) (choice : Choice) → Owns m cls a c choice → c < 2 ^ 32 - 1
+    → (weight_of m cls a c b ≡ into m cls choice.state choice.number b) × (c < choices_of m cls a)
+unfolding choices_of
+weight_there m cls a c b choice w l = (
+  weight_of_owner m cls a c b choice w,
+  omega (arith, w.place, w.number, class_later cls a choice.state m.states m.choices w.member w.state),
+)
 
-weight_in :
-    (m : Model) (cls : ℕ → ℕ) (count a c b : ℕ) (choice : Choice) (r : ℕ) → a < count → b < count → c < 2 ^ 32 - 1 → Owns m cls a c choice
-    → r ≡ into m cls choice.state choice.number b → r ≡ (quotient m cls count).weight a c b
-weight_in m cls count a c b choice r la lb lc w e =
-    let less : c < choices_of m cls a =
-    omega (arith, w.place, w.number, class_later cls a choice.state m.states m.choices w.member w.state) in
-    e
-    ∙ sym (weight_of_owner m cls a c b choice w)
-    ∙ sym (cond-true (ltb a count && (ltb b count && ltb c (choices_of m cls a))) (weight_of m cls a c b) 0
-    (and_from _ _ (lt-ltb a count la) (and_from _ _ (lt-ltb b count lb) (lt-ltb c (choices_of m cls a) less))))
+-- a choice that no state has, or past the numbers that are counted, is none of the class
+pub choices_past : (m : Model) (cls : ℕ → ℕ) (a c : ℕ) → before m cls a m.states ≤ c → choices_of m cls a ≤ c
+unfolding choices_of
+choices_past m cls a c l = omega arith
 
-pub weight_of_layer :
-    (m m₁ m₂ : Model) (classes : Option Classes) (k₁ k₂ : Classes) (a a₁ c b b₁ : ℕ) (choice : Choice) (r : ℕ)
-    → (m₁ ≡ m) × (classes ≡ Some k₁) × (a₁ ≡ a) → (m₂ ≡ m) × (classes ≡ Some k₂) × (b₁ ≡ b)
-    → a < (layer m classes).states → b < (layer m classes).states → c < 2 ^ 32 - 1 → Owns m₁ (entry k₁.of_state) a₁ c choice
-    → r ≡ into m₂ (entry k₂.of_state) choice.state choice.number b₁ → r ≡ (layer m classes).weight a c b
-weight_of_layer m m₁ m₂ classes k₁ k₂ a a₁ c b b₁ choice r e f la lb lc w h =
-    let same : k₂ ≡ k₁ = same_Some k₂ k₁ (sym f.1 ∙ e.1) in
-    rw e.1
-    (weight_in m (entry k₁.of_state) k₁.count a c b choice r (rw e.1 at la) (rw e.1 at lb) lc (rw (e.0, e.2) at w) (rw (f.0, same, f.2) at h))
+pub choices_fit : (m : Model) (cls : ℕ → ℕ) (a : ℕ) → choices_of m cls a ≤ 2 ^ 32 - 1
+unfolding choices_of
+choices_fit m cls a = omega arith
+
+pub ruleset choices_steps = (choices_past, choices_fit)

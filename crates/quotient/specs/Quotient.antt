@@ -25,7 +25,7 @@ abbrev pub into_to : Model → (ℕ → ℕ) → ℕ → ℕ → ℕ → ℕ →
 into_to m cls s d b t = sum_of_class cls b t (m.weight s d)
 
 -- what choice d of state s gives to class b, at most 4,294,967,295
-abbrev pub into : Model → (ℕ → ℕ) → ℕ → ℕ → ℕ → ℕ
+unfoldable pub into : Model → (ℕ → ℕ) → ℕ → ℕ → ℕ → ℕ
 into m cls s d b = capped (into_to m cls s d b m.states)
 
 -- some state of class a below n is a goal
@@ -38,7 +38,7 @@ abbrev pub owns : Model → (ℕ → ℕ) → ℕ → ℕ → ℕ → Bool
 owns m cls a c s = cls s == a && (nat_le (before m cls a s) c && nat_lt c (before m cls a s + m.choices s))
 
 -- how many choices class a has, at most 4,294,967,295
-abbrev pub choices_of : Model → (ℕ → ℕ) → ℕ → ℕ
+unfoldable pub choices_of : Model → (ℕ → ℕ) → ℕ → ℕ
 choices_of m cls a = capped (before m cls a m.states)
 
 -- what choice c of class a gives to class b: one state has the choice, and gives this

@@ -48,11 +48,11 @@ fn count_classes<S: Source>(below: &S, list: &[u8]) -> Option<u32>
     ensures { Counts (S.Source.meaning below.now) (entry list.now) (length list.now) result }
 {
     let n = below.states();
-    if n < 1 || n > 256 || list.len() != n as usize {
+    if !(1..=256).contains(&n) || list.len() != n as usize {
         return None;
     }
     let count = one_above(list);
-    (all_occur(list, count) && all_agree(below, list, n)).then_some(count)
+    (all_occur(list, count) && all_agree(below, list)).then_some(count)
 }
 
 // One above the largest class.
@@ -77,19 +77,19 @@ fn occurs(list: &[u8], class: u32) -> bool
     list.iter().any(|named| u32::from(*named) == class)
 }
 
-fn all_agree<S: Source>(below: &S, list: &[u8], n: u32) -> bool
-    requires { n ≡ length list.now }
-    ensures { Decides result ((s : ℕ) → s < n → Agrees (S.Source.meaning below.now) (entry list.now) n s) }
+fn all_agree<S: Source>(below: &S, list: &[u8]) -> bool
+    requires { (S.Source.meaning below.now).states ≡ length list.now }
+    ensures { Decides result ((s : ℕ) → s < length list.now → Agrees (S.Source.meaning below.now) (entry list.now) (length list.now) s) }
 {
-    (0..n).all(|s| agrees(below, list, n, s))
+    (0..below.states()).all(|s| agrees(below, list, s))
 }
 
 // Whether state `s` and its classmates agree on the goal mark.
-fn agrees<S: Source>(below: &S, list: &[u8], n: u32, s: u32) -> bool
-    requires listed { n ≡ length list.now }
-    requires within { s < n }
-    ensures { Decides result (Agrees (S.Source.meaning below.now) (entry list.now) n s) }
+fn agrees<S: Source>(below: &S, list: &[u8], s: u32) -> bool
+    requires listed { (S.Source.meaning below.now).states ≡ length list.now }
+    requires within { s < length list.now }
+    ensures { Decides result (Agrees (S.Source.meaning below.now) (entry list.now) (length list.now) s) }
 {
     let goal = below.is_goal(s);
-    (0..n).all(|t| list[s as usize] != list[t as usize] || below.is_goal(t) == goal)
+    (0..below.states()).all(|t| list[s as usize] != list[t as usize] || below.is_goal(t) == goal)
 }

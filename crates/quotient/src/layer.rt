@@ -65,12 +65,10 @@ impl<S: Source> Source for Quotient<S> {
     }
 
     fn choices(&self, s: u32) -> u32 {
-        match self.class(s) {
-            Some(class) => class.choices(),
-            None => 0,
-        }
+        self.class(s).map_or(0, |class| class.choices())
     }
 
+    #[tactic(auto, using(crate::proofs::Quotients::choices_steps))]
     fn weight(&self, s: u32, c: u32, t: u32) -> u32 {
         match (self.class(s), self.class(t)) {
             // No class has a choice of the last number, since at most that many are counted.
@@ -111,6 +109,7 @@ impl<'a, S: Source> Class<'a, S> {
         (0..self.below.states()).any(|s| self.has(s) && self.below.is_goal(s))
     }
 
+    #[tactic(auto, unfolding(crate::specs::Quotient::choices_of))]
     fn choices(&self) -> u32
         ensures { result ≡ choices_of (S.Source.meaning self.now.below.now) (entry self.now.classes.now.of_state) self.now.number }
     {
@@ -139,6 +138,7 @@ impl<'a, S: Source> Class<'a, S> {
     }
 
     // What the choice gives to the class.
+    #[tactic(auto, unfolding(crate::specs::Quotient::into))]
     fn part(&self, choice: Choice) -> u32
         ensures { result ≡ into (S.Source.meaning self.now.below.now) (entry self.now.classes.now.of_state) choice.state choice.number self.now.number }
     {

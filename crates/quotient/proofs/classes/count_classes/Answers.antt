@@ -1,4 +1,4 @@
-use Rattle.std.proofs.Common.{ℕ, ◌<◌, Decides, length, sym, ◌∙◌, arith}
+use Rattle.std.proofs.Common.{ℕ, ◌<◌, Decides, length, sym, ◌∙◌, arith, rules, tests}
 use Rattle.std.proofs.lemmas.Bool.{false≢true}
 use Rattle.std.proofs.lemmas.Bool.Decides.{not_from_Decides}
 use Rattle.mdp.specs.Values.{entry}
@@ -12,9 +12,8 @@ returns g c =
     let m = g.S.Source.meaning c.args.below.now in
     let cls = entry c.args.list.now in
     let listed = length c.args.list.now in
-    let n = c.states-n.result in
     let r = c.one_above-count.result in
-    let both : Decides c.if-all_occur.then_some (((a : ℕ) → a < r → Occurs cls listed a) × ((s : ℕ) → s < n → Agrees m cls n s)) =
+    let both : Decides c.if-all_occur.then_some (((a : ℕ) → a < r → Occurs cls listed a) × ((s : ℕ) → s < listed → Agrees m cls listed s)) =
     elim c.if-all_occur.branch [
       | then-all_occur w ↦ (
         λ e. (c.all_occur.ensures.0 w.if-all_occur.true, w.all_agree.ensures.0 (sym w.then_some-is ∙ e)),
@@ -25,4 +24,4 @@ returns g c =
         λ p. absurd (not_from_Decides _ c.all_occur.ensures w.if-all_occur.false p.0),
       )
     ] in
-    rw c.then_some.ensures (counted m cls listed n r c.if-all_occur.then_some c.states-n.ensures (omega arith) (omega arith) (omega arith) c.one_above-count.ensures both)
+    rw c.then_some.ensures (counted m cls listed r c.if-all_occur.then_some (omega arith) (search (rules, tests)) (search (rules, tests)) c.one_above-count.ensures both)
