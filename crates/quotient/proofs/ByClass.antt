@@ -25,7 +25,7 @@ unfolding sum_of_class
 class_out cls a n f e =
     omega (arith, sum_more n (λ u. cond (eqb (cls u) a) (f u) 0), cond-false (eqb (cls n) a) (f n) 0 (ne_eqb (cls n) a e))
 
-pub ruleset class_steps = (class_none, class_in, class_out)
+pub ruleset class_steps = (class_none, class_in, class_out, nat_tests)
 
 class_grows : (cls : ℕ → ℕ) (a n k : ℕ) (f : ℕ → ℕ) → n ≤ k → sum_of_class cls a n f ≤ sum_of_class cls a k f
 unfolding sum_of_class

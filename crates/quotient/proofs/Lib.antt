@@ -2,3 +2,4 @@ mod Lawfulness
 mod ByClass
 pub mod Quotients
 mod Below
+mod Listed

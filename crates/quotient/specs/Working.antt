@@ -1,12 +1,16 @@
 -- What the private functions answer on the way.
 use Rattle.std.specs.Prelude.{◌≡◌, ℕ, ◌+◌, ◌<◌, ◌≤◌, Some, None, Option}
 use Rattle.mdp.specs.Model.{Model}
-use Rattle.quotient.specs.Quotient.{before}
+use Rattle.quotient.specs.Quotient.{capped, sum_of_class, before}
 use Rattle.quotient.specs.declared.layer.Choice.{Choice}
 
 -- r is the smallest number above the classes of the states below n
 abbrev pub OneAbove : (ℕ → ℕ) → ℕ → ℕ → Type 0
 OneAbove cls n r = ((s : ℕ) → s < n → cls s < r) × ((k : ℕ) → ((s : ℕ) → s < n → cls s < k) → r ≤ k)
+
+-- r is the sum over the states of class a below n of what `gives` relates to each, where that is a function f
+abbrev pub IsClassSum : (ℕ → ℕ → Type 0) → (ℕ → ℕ) → ℕ → ℕ → ℕ → Type 0
+IsClassSum gives cls a n r = (f : ℕ → ℕ) → ((s x : ℕ) → gives s x → x ≡ f s) → r ≡ capped (sum_of_class cls a n f)
 
 -- choice c of class a is this choice of a state
 pub record Owns (m : Model) (cls : ℕ → ℕ) (a c : ℕ) (choice : Choice) : Type 0 where

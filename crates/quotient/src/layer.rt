@@ -1,8 +1,8 @@
 // The quotient layer: the states of one class become one state.
-ghost use Rattle.std.specs.Prelude.{◌≡◌, ℕ, ◌^◌, ◌<◌, ◌↔◌, IsTrue, IsSome, IfSome, Some};
+ghost use Rattle.std.specs.Prelude.{◌≡◌, ◌<◌, ◌↔◌, ◌==◌, IsSome, IfSome, Some};
 ghost use Rattle.mdp.specs.Values.{entry};
-ghost use Rattle.quotient.specs.Quotient.{capped, sum_of_class, into, goal_to, choices_of, layer, Divided};
-ghost use Rattle.quotient.specs.Working.{Owner};
+ghost use Rattle.quotient.specs.Quotient.{into, goal_to, choices_of, layer, Divided};
+ghost use Rattle.quotient.specs.Working.{IsClassSum, Owner};
 ghost use Rattle.std.proofs.Common.{rules};
 
 use crate::classes::Classes;
@@ -73,7 +73,7 @@ impl<S: Source> Source for Quotient<S> {
         match (self.class(s), self.class(t)) {
             // No class has a choice of the last number, since at most that many are counted.
             (Some(from), Some(to)) if c < u32::MAX => match from.owner(c) {
-                Some(choice) => to.part(choice),
+                Some(choice) => to.given_by(choice),
                 None => 0,
             },
             _ => 0,
@@ -98,7 +98,7 @@ struct Class<'a, S> {
 
 impl<'a, S: Source> Class<'a, S> {
     fn has(&self, s: u32) -> bool
-        ensures { IsTrue result ↔ (entry self.now.classes.now.of_state s ≡ self.now.number) }
+        ensures { result ≡ (entry self.now.classes.now.of_state s == self.now.number) }
     {
         self.classes.class_of(s) == self.number
     }
@@ -121,6 +121,7 @@ impl<'a, S: Source> Class<'a, S> {
     fn owner(&self, c: u32) -> Option<Choice>
         ensures { Owner (S.Source.meaning self.now.below.now) (entry self.now.classes.now.of_state) self.now.number c result }
     {
+        // A loop, since what is left of `c` goes on from state to state.
         let mut rest = c;
         for s in 0..self.below.states() {
             if self.has(s) {
@@ -139,24 +140,19 @@ impl<'a, S: Source> Class<'a, S> {
 
     // What the choice gives to the class.
     #[tactic(auto, unfolding(crate::specs::Quotient::into))]
-    fn part(&self, choice: Choice) -> u32
+    fn given_by(&self, choice: Choice) -> u32
         ensures { result ≡ into (S.Source.meaning self.now.below.now) (entry self.now.classes.now.of_state) choice.state choice.number self.now.number }
     {
         self.sum(|t| self.below.weight(choice.state, choice.number, t))
     }
 
     // The sum over the states of the class, at most 4,294,967,295.
-    #[tactic(auto, using(crate::proofs::ByClass::class_steps))]
     fn sum<F: Fn(u32) -> u32>(&self, f: F) -> u32
         requires { F.IsAlwaysCallable f }
-        ensures { (g : ℕ → ℕ) → ((s r : ℕ) → F.post f s r → r ≡ g s) → result ≡ capped (sum_of_class (entry self.now.classes.now.of_state) self.now.number (S.Source.meaning self.now.below.now).states g) }
+        ensures { IsClassSum (F.post f) (entry self.now.classes.now.of_state) self.now.number (S.Source.meaning self.now.below.now).states result }
     {
-        let mut total: u32 = 0;
-        for s in 0..self.below.states() {
-            if self.has(s) {
-                total = total.saturating_add(f(s));
-            }
-        }
-        total
+        (0..self.below.states())
+            .filter(|s| self.has(*s))
+            .fold(0, |total: u32, s| total.saturating_add(f(s)))
     }
 }
