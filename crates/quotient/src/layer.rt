@@ -28,7 +28,8 @@ impl<S: Source> Quotient<S> {
     // The class of this number, where there is one.
     fn class(&self, number: u32) -> Option<Class<'_, S>>
         ensures there { IsSome result ↔ (number < (layer (S.Source.meaning self.now.below) self.now.classes).states) }
-        ensures class { IfSome result (λ k. (k.below.now ≡ self.now.below) × (self.now.classes ≡ Some k.classes.now) × (k.number ≡ number)) }
+        ensures class { IfSome result
+            (λ k. (k.below.now ≡ self.now.below) × (self.now.classes ≡ Some k.classes.now) × (k.number ≡ number)) }
     {
         match &self.classes {
             Some(classes) if number < classes.count => Some(Class {
@@ -104,7 +105,8 @@ impl<'a, S: Source> Class<'a, S> {
     }
 
     fn has_goal(&self) -> bool
-        ensures { result ≡ goal_to (S.Source.meaning self.now.below.now) (entry self.now.classes.now.of_state) self.now.number (S.Source.meaning self.now.below.now).states }
+        ensures { result ≡ goal_to (S.Source.meaning self.now.below.now) (entry self.now.classes.now.of_state) self.now.number
+            (S.Source.meaning self.now.below.now).states }
     {
         (0..self.below.states()).any(|s| self.has(s) && self.below.is_goal(s))
     }
@@ -141,7 +143,8 @@ impl<'a, S: Source> Class<'a, S> {
     // What the choice gives to the class.
     #[tactic(auto, unfolding(crate::specs::Quotient::into))]
     fn given_by(&self, choice: Choice) -> u32
-        ensures { result ≡ into (S.Source.meaning self.now.below.now) (entry self.now.classes.now.of_state) choice.state choice.number self.now.number }
+        ensures { result ≡ into (S.Source.meaning self.now.below.now) (entry self.now.classes.now.of_state)
+            choice.state choice.number self.now.number }
     {
         self.sum(|t| self.below.weight(choice.state, choice.number, t))
     }
@@ -149,7 +152,8 @@ impl<'a, S: Source> Class<'a, S> {
     // The sum over the states of the class, at most 4,294,967,295.
     fn sum<F: Fn(u32) -> u32>(&self, f: F) -> u32
         requires { F.IsAlwaysCallable f }
-        ensures { IsClassSum (F.post f) (entry self.now.classes.now.of_state) self.now.number (S.Source.meaning self.now.below.now).states result }
+        ensures { IsClassSum (F.post f) (entry self.now.classes.now.of_state) self.now.number
+            (S.Source.meaning self.now.below.now).states result }
     {
         (0..self.below.states())
             .filter(|s| self.has(*s))
