@@ -1,8 +1,7 @@
 -- The quotient of a sound model by a lawful list is sound, and has every choice of every state.
-use Rattle.std.proofs.Common.{◌≡◌, ℕ, zero, suc, ◌+◌, ◌-◌, ◌^◌, ◌<◌, ◌≤◌, true, cond, ◌&&◌, ltb, Option, Some, sym, refl, ap, ◌∙◌, inl, inr, add-one, arith}
-use Rattle.std.proofs.lemmas.Bool.{cond-true, cond-false, eq-eqb, eqb-true, leb-true, ltb-true, lt-ltb, le-leb, and_parts, and_from, and_right, cases_eq, cases_lt, cases_Bool}
+use Rattle.std.proofs.Common.{◌≡◌, ℕ, zero, suc, ◌+◌, ◌-◌, ◌^◌, ◌<◌, ◌≤◌, true, false, cond, ltb, sym, refl, ap, ◌∙◌, inl, inr, add-one, arith}
+use Rattle.std.proofs.lemmas.Bool.{cond-true, cond-false, lt-ltb, and_from, and_right, cases_eq, cases_lt, cases_Bool}
 use Rattle.std.proofs.lemmas.Bool.Decides.{nat_tests}
-use Rattle.std.proofs.lemmas.Option.{same_Some}
 use Rattle.mdp.specs.Model.{Model}
 use Rattle.mdp.specs.Sums.{sum}
 use Rattle.mdp.specs.Sound.{Sound}
@@ -15,20 +14,26 @@ use Rattle.quotient.specs.declared.classes.Classes.{Classes}
 use Rattle.quotient.specs.declared.layer.Choice.{Choice}
 use Rattle.quotient.proofs.ByClass.{class_none, class_in, class_out, class_later, class_few, class_unused, all_classes, few_classes, goal_in, no_goal}
 
+-- a choice that some state has is one of the class
+owned : (m : Model) (cls : ℕ → ℕ) (a c : ℕ) (choice : Choice) → Owns m cls a c choice → c < before m cls a m.states
+owned m cls a c choice w =
+    omega (arith, w.place, w.number, class_later cls a choice.state m.states m.choices w.member w.state)
+
 -- a choice that one state has is no other state's
 one_owner :
     (m : Model) (cls : ℕ → ℕ) (a c : ℕ) (choice : Choice) (t : ℕ) → Owns m cls a c choice → (t ≡ choice.state → ⊥)
-    → owns m cls a c t ≡ true → ⊥
-one_owner m cls a c choice t w ne o =
-    let p = and_parts _ _ o in
-    let q = and_parts _ _ p.1 in
-    let same : cls t ≡ a = eqb-true (cls t) a p.0 in
-    let low : before m cls a t ≤ c = leb-true _ _ q.0 in
-    let high : c < before m cls a t + m.choices t = ltb-true _ _ q.1 in
-    elim (cases_lt t choice.state) [
-      | inl l ↦ omega (arith, w.place, class_later cls a t choice.state m.choices same l)
-      | inr l ↦ omega (arith, w.place, w.number, class_later cls a choice.state t m.choices w.member (omega arith))
-    ]
+    → owns m cls a c t ≡ false
+one_owner m cls a c choice t w ne =
+    grind (
+      arith,
+      nat_tests,
+      w.place,
+      w.number,
+      w.member,
+      class_later cls a t choice.state m.choices,
+      class_later cls a choice.state t m.choices,
+      cases_lt t choice.state,
+    )
 
 -- the weights of a choice of a class are those of the state that has it
 weight_of_owner :
@@ -38,14 +43,9 @@ unfolding weight_of
 weight_of_owner m cls a c b choice w =
     let s = choice.state in
     let same : c - before m cls a s ≡ choice.number = omega (arith, w.place) in
-    let mine : owns m cls a c s ≡ true =
-    and_from _ _ (eq-eqb (cls s) a w.member)
-    (and_from _ _ (le-leb (before m cls a s) c (omega (arith, w.place))) (lt-ltb c (before m cls a s + m.choices s) (omega (arith, w.place, w.number)))) in
+    let mine : owns m cls a c s ≡ true = grind (arith, nat_tests, w.place, w.number, w.member) in
     sum_only m.states s (λ t. cond (owns m cls a c t) (into m cls t (c - before m cls a t) b) 0) w.state
-    (λ t g ne. elim (cases_Bool (owns m cls a c t)) [
-      | inl o ↦ absurd (one_owner m cls a c choice t w ne o)
-      | inr o ↦ cond-false _ _ _ o
-    ])
+    (λ t g ne. cond-false _ _ _ (one_owner m cls a c choice t w ne))
     ∙ cond-true _ _ _ mine
     ∙ ap (λ x. into m cls s x b) same
 
@@ -89,20 +89,9 @@ gives_of_owner :
     (m : Model) (cls : ℕ → ℕ) (count a c b : ℕ) (choice : Choice) → Sound m → Owns m cls a c choice → a < count → b < count
     → (quotient m cls count).weight a c b ≡ into_to m cls choice.state choice.number b m.states
 gives_of_owner m cls count a c b choice h w la lb =
-    cond-true (ltb a count && (ltb b count && ltb c (choices_of m cls a))) (weight_of m cls a c b) 0
-    (and_from _ _ (lt-ltb a count la) (and_from _ _ (lt-ltb b count lb) (lt-ltb c (choices_of m cls a) less)))
-    ∙ weight_of_owner m cls a c b choice w
-    ∙ into_whole m cls choice.state choice.number b h w.state w.number
-  where
-    less : c < choices_of m cls a
-    less =
-        omega (
-          arith,
-          w.place,
-          w.number,
-          class_later cls a choice.state m.states m.choices w.member w.state,
-          choices_whole m cls a h,
-        )
+    let less : c < choices_of m cls a = omega (arith, owned m cls a c choice w, choices_whole m cls a h) in
+    let there : (quotient m cls count).weight a c b ≡ weight_of m cls a c b = grind (arith, nat_tests) in
+    there ∙ weight_of_owner m cls a c b choice w ∙ into_whole m cls choice.state choice.number b h w.state w.number
 
 full_quotient :
     (m : Model) (cls : ℕ → ℕ) (listed count a c : ℕ) → Sound m → Lawful m cls listed count → a < count
@@ -145,7 +134,7 @@ quotient_sound m cls listed count h k =
     }
   where
     here : (a : ℕ) → a < count → (quotient m cls count).choices a ≡ choices_of m cls a
-    here a la = cond-true (ltb a count) (choices_of m cls a) 0 (lt-ltb a count la)
+    here a la = grind (arith, nat_tests)
 
 -- a class is a goal if and only if its states are
 goal_of_class :
@@ -173,17 +162,24 @@ quotient_matched m cls listed count h k =
           omega (
             arith,
             cond-true (ltb (cls s) count) (choices_of m cls (cls s)) 0 (lt-ltb (cls s) count (k.within s l)),
-            class_later cls (cls s) s m.states m.choices refl l,
+            owned m cls (cls s) (before m cls (cls s) s + d) (record { state = s; number = d }) (own s d l g),
             choices_whole m cls (cls s) h,
           );
       gives = λ s d b l g.
           elim (cases_lt b count) [
-            | inl lb ↦ gives_of_owner m cls count (cls s) (before m cls (cls s) s + d) b (record { state = s; number = d }) h (record { state = l; member = refl; place = refl; number = g }) (k.within s l) lb
+            | inl lb ↦
+                gives_of_owner m cls count (cls s) (before m cls (cls s) s + d) b (record { state = s; number = d }) h (own s d l g)
+                (k.within s l) lb
             | inr lb ↦
                 no_weight m cls count (cls s) (before m cls (cls s) s + d) b lb
                 ∙ sym (class_unused cls b m.states (m.weight s d) (λ t lt e. omega (arith, k.within t lt)))
           ];
     }
+  where
+    own :
+        (s d : ℕ) → s < m.states → d < m.choices s
+        → Owns m cls (cls s) (before m cls (cls s) s + d) (record { state = s; number = d })
+    own s d l g = record { state = l; member = refl; place = refl; number = g }
 
 -- the weight of a choice of a class, by the choice of the state
 pub weight_there :
@@ -192,7 +188,7 @@ pub weight_there :
 unfolding choices_of
 weight_there m cls a c b choice w l = (
   weight_of_owner m cls a c b choice w,
-  omega (arith, w.place, w.number, class_later cls a choice.state m.states m.choices w.member w.state),
+  omega (arith, owned m cls a c choice w),
 )
 
 -- a choice that no state has, or past the numbers that are counted, is none of the class
