@@ -1,6 +1,6 @@
 -- Sums that are divided by classes.
-use Rattle.std.proofs.Common.{◌≡◌, ℕ, zero, suc, ◌+◌, ◌<◌, ◌≤◌, Bool, true, false, MatchBool, cond, eqb, sym, refl, ap, ◌∙◌, inl, inr, arith}
-use Rattle.std.proofs.lemmas.Bool.{cond-true, cond-false, eq-eqb, ne_eqb, cases_eq, and_from, and_left, and_right, or_from, or_left, or_right}
+use Rattle.std.proofs.Common.{◌≡◌, ℕ, zero, suc, ◌+◌, ◌<◌, ◌≤◌, Bool, true, false, MatchBool, cond, eqb, sym, refl, ◌∙◌, arith}
+use Rattle.std.proofs.lemmas.Bool.{cond-false, ne_eqb, cases_eq}
 use Rattle.std.proofs.lemmas.Bool.Decides.{nat_tests}
 use Rattle.mdp.specs.Model.{Model}
 use Rattle.mdp.specs.Sums.{sum}
@@ -16,14 +16,12 @@ class_none cls a f = sum_none _
 pub class_in :
     (cls : ℕ → ℕ) (a n : ℕ) (f : ℕ → ℕ) → cls n ≡ a → sum_of_class cls a (n + 1) f ≡ sum_of_class cls a n f + f n
 unfolding sum_of_class
-class_in cls a n f e =
-    omega (arith, sum_more n (λ u. cond (eqb (cls u) a) (f u) 0), cond-true (eqb (cls n) a) (f n) 0 (eq-eqb (cls n) a e))
+class_in cls a n f e = grind (arith, nat_tests, sum_more n (λ u. cond (eqb (cls u) a) (f u) 0))
 
 pub class_out :
     (cls : ℕ → ℕ) (a n : ℕ) (f : ℕ → ℕ) → (cls n ≡ a → ⊥) → sum_of_class cls a (n + 1) f ≡ sum_of_class cls a n f
 unfolding sum_of_class
-class_out cls a n f e =
-    omega (arith, sum_more n (λ u. cond (eqb (cls u) a) (f u) 0), cond-false (eqb (cls n) a) (f n) 0 (ne_eqb (cls n) a e))
+class_out cls a n f e = grind (arith, nat_tests, sum_more n (λ u. cond (eqb (cls u) a) (f u) 0))
 
 pub ruleset class_steps = (class_none, class_in, class_out, nat_tests)
 
@@ -73,19 +71,14 @@ pub goal_in :
     (m : Model) (cls : ℕ → ℕ) (a s n : ℕ) → s < n → cls s ≡ a → m.goal s ≡ true → goal_to m cls a n ≡ true
 unfolding goal_to
 goal_in m cls a s zero l e f = absurd (omega arith)
-goal_in m cls a s (suc n) l e f =
-    elim (cases_eq s n) [
-      | inl g ↦ or_right _ _ (and_from _ _ (eq-eqb (cls n) a (ap cls (sym g) ∙ e)) (ap m.goal (sym g) ∙ f))
-      | inr g ↦ or_left _ _ (goal_in m cls a s n (omega arith) e f)
-    ]
+goal_in m cls a s (suc n) l e f = grind (arith, nat_tests, cases_eq s n, goal_in m cls a s n)
 
 pub no_goal :
     (m : Model) (cls : ℕ → ℕ) (a n : ℕ) → ((t : ℕ) → t < n → cls t ≡ a → m.goal t ≡ false) → goal_to m cls a n ≡ false
 unfolding goal_to
 no_goal m cls a zero h = refl
 no_goal m cls a (suc n) h =
-    or_from _ _ (no_goal m cls a n (λ t l. h t (omega arith)))
-    (elim (cases_eq (cls n) a) [ inl e ↦ and_right _ _ (h n (omega arith) e) | inr e ↦ and_left _ _ (ne_eqb (cls n) a e) ])
+    grind (arith, nat_tests, no_goal m cls a n (λ t l. h t (omega arith)), h n (omega arith), cases_eq (cls n) a)
 
 pub goal_found :
     (m : Model) (cls : ℕ → ℕ) (a n : ℕ) (r : Bool) → n ≡ m.states

@@ -5,12 +5,10 @@ use Rattle.std.proofs.lemmas.Bool.Decides.{nat_tests}
 use Rattle.mdp.specs.Model.{Model}
 use Rattle.mdp.specs.Sums.{sum}
 use Rattle.mdp.specs.Sound.{Sound}
-use Rattle.mdp.specs.Values.{entry}
 use Rattle.mdp.proofs.Sums.{sum_same, sum_le, sum_only}
 use Rattle.quotient.specs.Classes.{Lawful}
-use Rattle.quotient.specs.Quotient.{Matched, before, into_to, into, owns, choices_of, weight_of, quotient, layer}
+use Rattle.quotient.specs.Quotient.{Matched, before, into_to, into, owns, choices_of, weight_of, quotient}
 use Rattle.quotient.specs.Working.{Owns}
-use Rattle.quotient.specs.declared.classes.Classes.{Classes}
 use Rattle.quotient.specs.declared.layer.Choice.{Choice}
 use Rattle.quotient.proofs.ByClass.{class_none, class_in, class_out, class_later, class_few, class_unused, all_classes, few_classes, goal_in, no_goal}
 

@@ -1,4 +1,4 @@
-use Rattle.std.proofs.Common.{refl, ◌∙◌, ap, rules, tests}
+use Rattle.std.proofs.Common.{◌∙◌, ap, rules, tests}
 use Rattle.mdp.specs.Values.{entry}
 use Rattle.quotient.specs.Quotient.{capped, sum_of_class}
 use Rattle.quotient.proofs.Listed.{sum_from_fold}
