@@ -67,14 +67,12 @@ impl<S: Source> Source for Sink<S> {
     }
 
     fn weight(&self, s: u32, c: u32, t: u32) -> u32 {
-        if self.is_stuck(s) {
-            if c == 0 && t == s {
-                self.below.denominator()
-            } else {
-                0
-            }
-        } else {
+        if !self.is_stuck(s) {
             self.below.weight(s, c, t)
+        } else if c == 0 && t == s {
+            self.below.denominator()
+        } else {
+            0
         }
     }
 }
