@@ -45,6 +45,10 @@ choices_of m cls a = capped (before m cls a m.states)
 unfoldable pub weight_of : Model → (ℕ → ℕ) → ℕ → ℕ → ℕ → ℕ
 weight_of m cls a c b = sum m.states (λ s. cond (owns m cls a c s) (into m cls s (c - before m cls a s) b) 0)
 
+-- the same, and 0 where class a has no choice c
+abbrev pub weight_between : Model → (ℕ → ℕ) → ℕ → ℕ → ℕ → ℕ
+weight_between m cls a c b = cond (nat_lt c (choices_of m cls a)) (weight_of m cls a c b) 0
+
 -- the model of the classes
 abbrev pub quotient : Model → (ℕ → ℕ) → ℕ → Model
 quotient m cls count =
@@ -53,7 +57,7 @@ quotient m cls count =
       denominator = m.denominator;
       goal = λ a. nat_lt a count && goal_to m cls a m.states;
       choices = λ a. cond (nat_lt a count) (choices_of m cls a) 0;
-      weight = λ a c b. cond (nat_lt a count && (nat_lt b count && nat_lt c (choices_of m cls a))) (weight_of m cls a c b) 0;
+      weight = λ a c b. cond (nat_lt a count && nat_lt b count) (weight_between m cls a c b) 0;
     }
 
 -- what the layer answers for: the model of the classes, and without classes one that answers 0 or no

@@ -1,7 +1,7 @@
 // The quotient layer: the states of one class become one state.
 ghost use Rattle.std.specs.Prelude.{◌≡◌, ◌<◌, ◌↔◌, ◌==◌, IsSome, IfSome, Some};
 ghost use Rattle.mdp.specs.Values.{entry};
-ghost use Rattle.quotient.specs.Quotient.{into, goal_to, choices_of, layer, Divided};
+ghost use Rattle.quotient.specs.Quotient.{into, goal_to, choices_of, weight_between, layer, Divided};
 ghost use Rattle.quotient.specs.Working.{IsClassSum, Owner};
 ghost use Rattle.std.proofs.Common.{rules};
 
@@ -69,14 +69,9 @@ impl<S: Source> Source for Quotient<S> {
         self.class(s).map_or(0, |class| class.choices())
     }
 
-    #[tactic(auto, using(crate::proofs::Quotients::choices_steps))]
     fn weight(&self, s: u32, c: u32, t: u32) -> u32 {
         match (self.class(s), self.class(t)) {
-            // No class has a choice of the last number, since at most that many are counted.
-            (Some(from), Some(to)) if c < u32::MAX => match from.owner(c) {
-                Some(choice) => to.given_by(choice),
-                None => 0,
-            },
+            (Some(from), Some(to)) => from.weight(c, &to),
             _ => 0,
         }
     }
@@ -138,6 +133,19 @@ impl<'a, S: Source> Class<'a, S> {
             }
         }
         None
+    }
+
+    // What choice `c` of the class gives to another class of the list.
+    #[tactic(auto, using(crate::proofs::Quotients::choices_steps))]
+    fn weight(&self, c: u32, to: &Class<'_, S>) -> u32
+        requires { (to.now.below.now ≡ self.now.below.now) × (to.now.classes.now ≡ self.now.classes.now) }
+        ensures { result ≡ weight_between (S.Source.meaning self.now.below.now) (entry self.now.classes.now.of_state) self.now.number c to.now.number }
+    {
+        match self.owner(c) {
+            // No class has a choice of the last number, since at most that many are counted.
+            Some(choice) if c < u32::MAX => to.given_by(choice),
+            _ => 0,
+        }
     }
 
     // What the choice gives to the class.
