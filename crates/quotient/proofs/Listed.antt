@@ -1,5 +1,5 @@
 -- A sum over a class as the sum of a list.
-use Rattle.std.proofs.Common.{◌≡◌, ℕ, zero, suc, ◌+◌, [], ◌∷◌, Bool, cond, eqb, sym, refl, ap, ◌∙◌, inl, inr, add-one, arith}
+use Rattle.std.proofs.Common.{◌≡◌, ℕ, zero, suc, ◌+◌, List, [], ◌∷◌, Bool, cond, eqb, sym, refl, ap, ◌∙◌, inl, inr, add-one, arith}
 use Rattle.std.proofs.lemmas.Bool.{cond-true, cond-false, eq-eqb, ne_eqb, cases_eq}
 use Rattle.std.proofs.lemmas.List.FromFn.{filter_of_map_range_with_len_more}
 use Rattle.std.proofs.lemmas.List.Sums.{sum_by-append, sum_by_push}
@@ -23,17 +23,28 @@ pub class_listed :
     (cls : ℕ → ℕ) (a n : ℕ) (f : ℕ → ℕ) → sum_by f (filter (λ s. eqb (cls s) a) (range_with_len 0 n)) ≡ sum_of_class cls a n f
 class_listed cls a zero f = sym (class_none cls a f)
 class_listed cls a (suc n) f =
-    let ih = class_listed cls a n f in
-    let more : sum_by f (filter (λ s. eqb (cls s) a) (range_with_len 0 (n + 1))) ≡ sum_of_class cls a (n + 1) f =
+    let members : ℕ → List ℕ = λ k. filter (λ s. eqb (cls s) a) (range_with_len 0 k) in
+    let last : List ℕ = cond (eqb (cls n) a) (n ∷ []) [] in
+    let more : sum_by f (members (n + 1)) ≡ sum_of_class cls a (n + 1) f =
     ap (sum_by f) (simp map-id at (filter_of_map_range_with_len_more (λ s. eqb (cls s) a) (λ s. s) 0 n n (omega arith)))
-    ∙ sum_by-append f (filter (λ s. eqb (cls s) a) (range_with_len 0 n)) (cond (eqb (cls n) a) (n ∷ []) [])
+    ∙ sum_by-append f (members n) last
     ∙ elim (cases_eq (cls n) a) [
-      | inl e ↦ omega (arith, class_listed cls a n f, class_in cls a n f e, ap (sum_by f) (cond-true (eqb (cls n) a) (n ∷ []) [] (eq-eqb (cls n) a e)))
-      | inr e ↦ omega (arith, class_listed cls a n f, class_out cls a n f e, ap (sum_by f) (cond-false (eqb (cls n) a) (n ∷ []) [] (ne_eqb (cls n) a e)))
+      | inl e ↦ omega (
+        arith,
+        class_listed cls a n f,
+        class_in cls a n f e,
+        ap (sum_by f) (cond-true (eqb (cls n) a) (n ∷ []) [] (eq-eqb (cls n) a e)),
+      )
+      | inr e ↦ omega (
+        arith,
+        class_listed cls a n f,
+        class_out cls a n f e,
+        ap (sum_by f) (cond-false (eqb (cls n) a) (n ∷ []) [] (ne_eqb (cls n) a e)),
+      )
     ] in
     rw add-one at more
 
--- what a fold that adds up the members of a class gives, if no sum is above the limit
+-- what a fold gives that adds up f over the members of a class, where each sum stops at the limit
 module _ {F P : Type 0} {g : Mut F (ℕ × (ℕ × Unit {0})) ℕ} {p : Mut P (Bor ℕ × Unit {0}) Bool} {s : Filter (Range ℕ) P} {t : F} where
   pub sum_from_fold :
       (cls : ℕ → ℕ) (a n r : ℕ) (f : ℕ → ℕ) → FoldsItems (filter_steps nat_range_steps p) g s t 0 r

@@ -138,7 +138,8 @@ impl<'a, S: Source> Class<'a, S> {
     // What choice `c` of the class gives to another class of the list.
     #[tactic(auto, using(crate::proofs::Quotients::choices_steps))]
     fn weight(&self, c: u32, to: &Class<'_, S>) -> u32
-        requires { (to.now.below.now ≡ self.now.below.now) × (to.now.classes.now ≡ self.now.classes.now) }
+        requires same_below { to.now.below.now ≡ self.now.below.now }
+        requires same_classes { to.now.classes.now ≡ self.now.classes.now }
         ensures { result ≡ weight_between (S.Source.meaning self.now.below.now) (entry self.now.classes.now.of_state) self.now.number c to.now.number }
     {
         match self.owner(c) {
