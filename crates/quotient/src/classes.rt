@@ -10,6 +10,7 @@ use mdp::Source;
 // The class of each state, by a lawful list.
 #[derive(Drop)]
 pub(crate) struct Classes {
+    // As many places as there can be states, since the library allocates nothing; 0 past the list's end.
     of_state: [u8; 256],
     pub(crate) count: u32,
 }
