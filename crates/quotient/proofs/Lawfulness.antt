@@ -1,15 +1,14 @@
 -- Which number of classes makes a list lawful, and that no other does.
-use Rattle.std.proofs.Common.{◌≡◌, ℕ, ◌+◌, ◌<◌, ◌≤◌, max, ◌⊎◌, sym, ◌∙◌, inl, inr, arith, below_more}
-use Rattle.std.proofs.lemmas.Bool.{cases_lt}
+use Rattle.std.proofs.Common.{◌≡◌, ℕ, ◌-◌, ◌<◌, ◌≤◌, Bool, true, false, Decides, List, ◌++◌, length, get_or, drop, Some, sym, refl, ap, ◌∙◌, inl, inr, arith}
+use Rattle.std.proofs.lemmas.List.{get_or_append_left, get_or-append_right, get_or-drop, get_or_past}
+use Rattle.std.proofs.lemmas.Bool.{cases_lt, false≢true}
+use Rattle.std.specs.Bool.{then_some}
 use Rattle.mdp.specs.Model.{Model}
 use Rattle.quotient.specs.Classes.{Occurs, Agrees, Lawful, Counts}
 use Rattle.quotient.specs.Working.{OneAbove}
 
-pub above_more : (cls : ℕ → ℕ) (n r : ℕ) → OneAbove cls n r → OneAbove cls (n + 1) (max r (cls n + 1))
-above_more cls n r h = (
-  below_more _ _ (λ s l. omega (arith, h.0 s l)) (omega arith),
-  λ k b. omega (arith, h.1 k (λ s l. b s (omega arith)), b n (omega arith)),
-)
+occurs_below : (cls : ℕ → ℕ) (n k a : ℕ) → n ≡ k → Occurs cls n a → Occurs cls k a
+occurs_below cls n k a e o = record { state = o.state; within = omega (arith, o.within); named = o.named }
 
 -- a lawful list has as many classes as its classes reach
 same_count :
@@ -17,56 +16,67 @@ same_count :
 same_count m cls listed r k h w =
     let up : r ≤ k = h.1 k (λ s l. w.within s (omega (arith, w.whole))) in
     elim (cases_lt r k) [
-      | inl l ↦ let o = w.occur r l in absurd (omega (arith, o.2, w.whole, h.0 o.0 (omega (arith, o.1, w.whole))))
+      | inl l ↦
+          let o = w.occur r l in
+          absurd (omega (arith, o.named, w.whole, h.0 o.state (omega (arith, o.within, w.whole))))
       | inr l ↦ omega arith
     ]
 
+-- a list whose classes all occur and whose classmates agree is lawful, and no other
 pub counted :
-    (m : Model) (cls : ℕ → ℕ) (listed n r : ℕ) → n ≡ m.states → listed ≡ n → 1 ≤ n → n ≤ 256 → OneAbove cls listed r
-    → ((a : ℕ) → a < r → Occurs cls listed a) → ((s : ℕ) → s < n → Agrees m cls n s) → Counts m cls listed r
-counted m cls listed n r e f a b h o g =
+    (m : Model) (cls : ℕ → ℕ) (listed r : ℕ) (b : Bool) → listed ≡ m.states → 1 ≤ listed → listed ≤ 256 → OneAbove cls listed r
+    → Decides b (((a : ℕ) → a < r → Occurs cls listed a) × ((s : ℕ) → s < listed → Agrees m cls listed s)) → Counts m cls listed (then_some b r)
+counted m cls listed r true e low high h d =
+    let p = d.0 refl in
     record {
-      every = λ k w. same_count m cls listed r k h w;
-      holds = λ l.
+      every = λ k w. ap Some (same_count m cls listed r k h w);
+      holds =
           record {
             some_states = omega arith;
             few_states = omega arith;
-            whole = omega arith;
+            whole = e;
             within = λ s l. h.0 s (omega arith);
-            occur = λ a l. let p = o a l in (p.0, omega (arith, p.1), p.2);
-            agree = λ s l t k. g s (omega arith) t (omega arith);
+            occur = λ a l. occurs_below cls listed m.states a e (p.0 a l);
+            agree = λ s l t k. p.1 s (omega arith) t (omega arith);
           };
     }
-
--- where some class is left out or classmates differ, no count makes the list lawful
-pub uncounted :
-    (m : Model) (cls : ℕ → ℕ) (listed n r : ℕ) → n ≡ m.states → listed ≡ n → OneAbove cls listed r
-    → ((((a : ℕ) → a < r → Occurs cls listed a) → ⊥) ⊎ (((s : ℕ) → s < n → Agrees m cls n s) → ⊥)) → Counts m cls listed 0
-uncounted m cls listed n r e f h fails =
+counted m cls listed r false e low high h d =
     record {
       every = λ k w.
           let same : r ≡ k = same_count m cls listed r k h w in
-          elim fails [
-            | inl x ↦ absurd (x (λ a l. let la : a < k = omega arith in let p = w.occur a la in (p.0, omega (arith, p.1), p.2)))
-            | inr x ↦ absurd (x (λ s l t j. w.agree s (omega (arith, e)) t (omega (arith, e))))
-          ];
-      holds = λ l. absurd (omega arith);
+          absurd
+          (false≢true
+          (d.1 (
+            λ a l. occurs_below cls m.states listed a (sym e) (w.occur a (omega arith)),
+            λ s l t k. w.agree s (omega (arith, e)) t (omega (arith, e)),
+          )));
+      holds = tt;
     }
-
-pub above_all : (cls : ℕ → ℕ) (i n r : ℕ) → i ≡ n → OneAbove cls i r → OneAbove cls n r
-above_all cls i n r e h = (λ s l. h.0 s (omega arith), λ k b. h.1 k (λ s l. b s (omega arith)))
 
 -- a list that is the same at every place is as lawful
 pub lawful_copy :
-    (m : Model) (cls copy : ℕ → ℕ) (listed count : ℕ) → (listed ≤ 256 → (k : ℕ) → copy k ≡ cls k) → Lawful m cls listed count
+    (m : Model) (cls copy : ℕ → ℕ) (listed count : ℕ) → ((k : ℕ) → copy k ≡ cls k) → Lawful m cls listed count
     → Lawful m copy listed count
-lawful_copy m cls copy listed count h w =
-    let same : (k : ℕ) → copy k ≡ cls k = h (omega (arith, w.whole, w.few_states)) in
+lawful_copy m cls copy listed count same w =
     record {
       some_states = w.some_states;
       few_states = w.few_states;
       whole = w.whole;
       within = λ s l. omega (arith, same s, w.within s l);
-      occur = λ a l. let p = w.occur a l in (p.0, p.1, same p.0 ∙ p.2);
+      occur = λ a l. let p = w.occur a l in record { state = p.state; within = p.within; named = same p.state ∙ p.named };
       agree = λ s l t j e. w.agree s l t j (sym (same s) ∙ e ∙ same t);
     }
+
+-- a list with zeros behind it is the same at every place
+pub padded :
+    (xs ys zs : List ℕ) → ys ≡ xs → ((k : ℕ) → get_or zs k 0 ≡ 0) → (k : ℕ) → get_or (ys ++ drop (length xs) zs) k 0 ≡ get_or xs k 0
+padded xs ys zs e h k =
+    rw e
+    (elim (cases_lt k (length xs)) [
+      | inl l ↦ get_or_append_left xs (drop (length xs) zs) 0 k l
+      | inr l ↦
+          get_or-append_right xs (drop (length xs) zs) (length xs) k 0 refl l
+          ∙ get_or-drop (length xs) zs (k - length xs) 0
+          ∙ h _
+          ∙ sym (get_or_past xs k 0 l)
+    ])

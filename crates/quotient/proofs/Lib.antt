@@ -1,4 +1,5 @@
-mod Filled
 mod Lawfulness
 mod ByClass
 pub mod Quotients
+mod Below
+mod Listed

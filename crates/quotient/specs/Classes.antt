@@ -1,10 +1,12 @@
 -- When a list divides the states of a model into classes. State s is of class cls s, and the classes are numbered from 0.
-use Rattle.std.specs.Prelude.{◌≡◌, ℕ, ◌<◌, ◌≤◌}
+use Rattle.std.specs.Prelude.{◌≡◌, ℕ, ◌<◌, ◌≤◌, Option, Some, IfSome}
 use Rattle.mdp.specs.Model.{Model}
 
 -- class a is the class of some state below n
-abbrev pub Occurs : (ℕ → ℕ) → ℕ → ℕ → Type 0
-Occurs cls n a = (s : ℕ) × (s < n) × (cls s ≡ a)
+pub record Occurs (cls : ℕ → ℕ) (n a : ℕ) : Type 0 where
+  pub state : ℕ
+  pub within : state < n
+  pub named : cls state ≡ a
 
 -- the classmates of s below n are goals if and only if s is
 abbrev pub Agrees : Model → (ℕ → ℕ) → ℕ → ℕ → Type 0
@@ -19,7 +21,7 @@ pub record Lawful (m : Model) (cls : ℕ → ℕ) (listed count : ℕ) : Type 0 
   pub occur : (a : ℕ) → a < count → Occurs cls m.states a
   pub agree : (s : ℕ) → s < m.states → Agrees m cls m.states s
 
--- count is the number of classes of a lawful list, and 0 of any other
-pub record Counts (m : Model) (cls : ℕ → ℕ) (listed count : ℕ) : Type 0 where
-  pub every : (k : ℕ) → Lawful m cls listed k → count ≡ k
-  pub holds : 1 ≤ count → Lawful m cls listed count
+-- count is the number of classes of a lawful list, and None of any other
+pub record Counts (m : Model) (cls : ℕ → ℕ) (listed : ℕ) (count : Option ℕ) : Type 0 where
+  pub every : (k : ℕ) → Lawful m cls listed k → count ≡ Some k
+  pub holds : IfSome count (Lawful m cls listed)

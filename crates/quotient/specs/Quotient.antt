@@ -1,25 +1,31 @@
 -- What the quotient layer means: states of one class become one state, which has the choices of them all.
-use Rattle.std.specs.Prelude.{◌≡◌, ℕ, zero, suc, ◌+◌, ◌-◌, ◌^◌, ◌<◌, ◌≤◌, min, Bool, false, cond, ◌&&◌, ◌||◌, List, length, ◌==◌, nat_le, nat_lt}
+use Rattle.std.specs.Prelude.{◌≡◌, ℕ, zero, suc, ◌+◌, ◌-◌, ◌^◌, ◌<◌, min, Bool, false, cond, ◌&&◌, ◌||◌, List, length, Option, None, Some, IsSome, IfSome, ◌==◌, nat_le, nat_lt}
+use Rattle.std.specs.Option.{option_map}
 use Rattle.mdp.specs.Model.{Model}
 use Rattle.mdp.specs.Sums.{sum}
 use Rattle.mdp.specs.Sound.{Sound}
 use Rattle.mdp.specs.Values.{entry}
 use Rattle.quotient.specs.Classes.{Counts}
+use Rattle.quotient.specs.declared.classes.Classes.{Classes}
 
 -- Sums of weights and of choices stop at 4,294,967,295.
 abbrev pub capped : ℕ → ℕ
 capped x = min x (2 ^ 32 - 1)
 
+-- the sum of f over the states of class a below n
+unfoldable pub sum_of_class : (ℕ → ℕ) → ℕ → ℕ → (ℕ → ℕ) → ℕ
+sum_of_class cls a n f = sum n (λ u. cond (cls u == a) (f u) 0)
+
 -- how many choices the states of class a below s have
-unfoldable pub before : Model → (ℕ → ℕ) → ℕ → ℕ → ℕ
-before m cls a s = sum s (λ u. cond (cls u == a) (m.choices u) 0)
+abbrev pub before : Model → (ℕ → ℕ) → ℕ → ℕ → ℕ
+before m cls a s = sum_of_class cls a s m.choices
 
 -- what choice d of state s gives to the states of class b below t
-unfoldable pub into_to : Model → (ℕ → ℕ) → ℕ → ℕ → ℕ → ℕ → ℕ
-into_to m cls s d b t = sum t (λ u. cond (cls u == b) (m.weight s d u) 0)
+abbrev pub into_to : Model → (ℕ → ℕ) → ℕ → ℕ → ℕ → ℕ → ℕ
+into_to m cls s d b t = sum_of_class cls b t (m.weight s d)
 
 -- what choice d of state s gives to class b, at most 4,294,967,295
-abbrev pub into : Model → (ℕ → ℕ) → ℕ → ℕ → ℕ → ℕ
+unfoldable pub into : Model → (ℕ → ℕ) → ℕ → ℕ → ℕ → ℕ
 into m cls s d b = capped (into_to m cls s d b m.states)
 
 -- some state of class a below n is a goal
@@ -32,23 +38,33 @@ abbrev pub owns : Model → (ℕ → ℕ) → ℕ → ℕ → ℕ → Bool
 owns m cls a c s = cls s == a && (nat_le (before m cls a s) c && nat_lt c (before m cls a s + m.choices s))
 
 -- how many choices class a has, at most 4,294,967,295
-abbrev pub choices_of : Model → (ℕ → ℕ) → ℕ → ℕ
+unfoldable pub choices_of : Model → (ℕ → ℕ) → ℕ → ℕ
 choices_of m cls a = capped (before m cls a m.states)
 
 -- what choice c of class a gives to class b: one state has the choice, and gives this
 unfoldable pub weight_of : Model → (ℕ → ℕ) → ℕ → ℕ → ℕ → ℕ
 weight_of m cls a c b = sum m.states (λ s. cond (owns m cls a c s) (into m cls s (c - before m cls a s) b) 0)
 
--- the model of the classes; without a class it answers 0 or no
+-- the same, and 0 where class a has no choice c
+abbrev pub weight_between : Model → (ℕ → ℕ) → ℕ → ℕ → ℕ → ℕ
+weight_between m cls a c b = cond (nat_lt c (choices_of m cls a)) (weight_of m cls a c b) 0
+
+-- the model of the classes
 abbrev pub quotient : Model → (ℕ → ℕ) → ℕ → Model
 quotient m cls count =
     record {
       states = count;
-      denominator = cond (count == 0) 0 m.denominator;
+      denominator = m.denominator;
       goal = λ a. nat_lt a count && goal_to m cls a m.states;
       choices = λ a. cond (nat_lt a count) (choices_of m cls a) 0;
-      weight = λ a c b. cond (nat_lt a count && (nat_lt b count && nat_lt c (choices_of m cls a))) (weight_of m cls a c b) 0;
+      weight = λ a c b. cond (nat_lt a count && nat_lt b count) (weight_between m cls a c b) 0;
     }
+
+-- what the layer answers for: the model of the classes, and without classes one that answers 0 or no
+abbrev pub layer : Model → Option Classes → Model
+layer m None =
+    record { states = 0; denominator = 0; goal = λ a. false; choices = λ a. 0; weight = λ a c b. 0 }
+layer m (Some classes) = quotient m (entry classes.of_state) classes.count
 
 -- A state and its class are alike: choice d of state s is choice before m cls (cls s) s + d of its class, and gives each class what the
 -- states of that class are given.
@@ -63,9 +79,9 @@ pub record Matched (m : Model) (cls : ℕ → ℕ) (count : ℕ) : Type 0 where
       (s d b : ℕ) → s < m.states → d < m.choices s
       → (quotient m cls count).weight (cls s) (before m cls (cls s) s + d) b ≡ into_to m cls s d b m.states
 
--- What a list of classes becomes: the classes that are kept, and their count. A quotient of a sound model by a lawful list is sound.
-pub record Divided (m : Model) (list classes : List ℕ) (count : ℕ) : Type 0 where
-  pub same : length list ≤ 256 → (k : ℕ) → entry classes k ≡ entry list k
-  pub lawful : Counts m (entry list) (length list) count
-  pub sound : Sound m → 1 ≤ count → Sound (quotient m (entry classes) count)
-  pub matched : Sound m → 1 ≤ count → Matched m (entry classes) count
+-- What a list becomes: the classes that it names, where it is lawful. A quotient of a sound model by a lawful list is sound.
+pub record Divided (m : Model) (list : List ℕ) (classes : Option Classes) : Type 0 where
+  pub same : IfSome classes (λ k. (s : ℕ) → entry k.of_state s ≡ entry list s)
+  pub lawful : Counts m (entry list) (length list) (option_map (λ k. k.count) classes)
+  pub sound : Sound m → IsSome classes → Sound (layer m classes)
+  pub matched : Sound m → IfSome classes (λ k. Matched m (entry k.of_state) k.count)

@@ -1,5 +1,5 @@
 // Lists that name a class for each state, and how many classes they make.
-ghost use Rattle.std.specs.Prelude.{◌≡◌, ℕ, ◌<◌, ◌≤◌, length, Decides, slice_index};
+ghost use Rattle.std.specs.Prelude.{◌≡◌, ℕ, ◌<◌, ◌≤◌, length, Decides};
 ghost use Rattle.mdp.specs.Values.{entry};
 ghost use Rattle.quotient.specs.Classes.{Occurs, Agrees, Counts};
 ghost use Rattle.quotient.specs.Quotient.{Divided};
@@ -7,114 +7,90 @@ ghost use Rattle.quotient.specs.Working.{OneAbove};
 
 use mdp::Source;
 
-// One above the largest class.
-fn one_above(classes: &[u8]) -> u32
-    ensures { OneAbove (entry classes.now) (length classes.now) result }
-{
-    let mut count: u32 = 0;
-    for class in classes {
-        count = count.max(*class as u32 + 1);
-    }
-    count
+// The class of each state, by a lawful list.
+#[derive(Drop)]
+pub(crate) struct Classes {
+    // As many places as there can be states, since the library allocates nothing; 0 past the list's end.
+    of_state: [u8; 256],
+    pub(crate) count: u32,
 }
 
-fn occurs(classes: &[u8], class: u32) -> bool
-    ensures { Decides result (Occurs (entry classes.now) (length classes.now) class) }
-{
-    for named in classes {
-        if *named as u32 == class {
-            return true;
-        }
+impl Classes {
+    pub(crate) fn of_list<S: Source>(below: &S, list: &[u8]) -> Option<Self>
+        ensures { Divided (S.Source.meaning below.now) list.now result }
+    {
+        let count = count_classes(below, list)?;
+        let of_state = copied(list);
+        Some(Classes { of_state, count })
     }
-    false
-}
 
-// Whether every class below `count` occurs.
-fn all_occur(classes: &[u8], count: u32) -> bool
-    ensures { Decides result ((a : ℕ) → a < count → Occurs (entry classes.now) (length classes.now) a) }
-{
-    for class in 0..count {
-        if !occurs(classes, class) {
-            return false;
-        }
-    }
-    true
-}
-
-// Whether state `s` and its classmates agree on the goal mark.
-fn agrees<S: Source>(below: &S, classes: &[u8], n: u32, s: u32) -> bool
-    requires listed { n ≡ length classes.now }
-    requires within { s < n }
-    ensures { Decides result (Agrees (S.Source.meaning below.now) (entry classes.now) n s) }
-{
-    let goal = below.is_goal(s);
-    for t in 0..n {
-        if classes[s as usize] == classes[t as usize] && below.is_goal(t) != goal {
-            return false;
-        }
-    }
-    true
-}
-
-fn all_agree<S: Source>(below: &S, classes: &[u8], n: u32) -> bool
-    requires { n ≡ length classes.now }
-    ensures { Decides result ((s : ℕ) → s < n → Agrees (S.Source.meaning below.now) (entry classes.now) n s) }
-{
-    for s in 0..n {
-        if !agrees(below, classes, n, s) {
-            return false;
-        }
-    }
-    true
-}
-
-// The number of classes of a lawful list, and 0 of any other.
-fn count_classes<S: Source>(below: &S, classes: &[u8]) -> u32
-    ensures { Counts (S.Source.meaning below.now) (entry classes.now) (length classes.now) result }
-{
-    let n = below.states();
-    if n < 1 || n > 256 || classes.len() != n as usize {
-        return 0;
-    }
-    let count = one_above(classes);
-    if all_occur(classes, count) && all_agree(below, classes, n) {
-        count
-    } else {
-        0
+    // Past the 256th place the class is 0.
+    pub(crate) fn class_of(&self, s: u32) -> u32
+        ensures { result ≡ entry self.now.of_state s }
+    {
+        self.of_state
+            .get(s as usize)
+            .map_or(0, |class| u32::from(*class))
     }
 }
 
-fn no_classes() -> [u8; 256]
-    ensures { (k : ℕ) → slice_index result k ≡ 0 }
+// The list, and zeros up to the 256th place.
+fn copied(list: &[u8]) -> [u8; 256]
+    requires { length list.now ≤ 256 }
+    ensures { (k : ℕ) → entry result k ≡ entry list.now k }
 {
-    [0; 256]
-}
-
-// The list, and zeros up to the 256th place. Of a longer list the rest is left out.
-fn copied(classes: &[u8]) -> [u8; 256]
-    ensures { length classes.now ≤ 256 → (k : ℕ) → entry result k ≡ entry classes.now k }
-{
-    let mut copy = no_classes();
-    for i in 0..classes.len().min(256) {
-        copy[i] = classes[i];
-    }
+    let mut copy = [0; 256];
+    copy[..list.len()].copy_from_slice(list);
     copy
 }
 
-// The classes of a list, and how many there are: 0 where the list is not lawful.
-pub(crate) fn divide<S: Source>(below: &S, classes: &[u8]) -> ([u8; 256], u32)
-    ensures { Divided (S.Source.meaning below.now) classes.now result.0 result.1 }
+// The number of classes of a lawful list.
+fn count_classes<S: Source>(below: &S, list: &[u8]) -> Option<u32>
+    ensures { Counts (S.Source.meaning below.now) (entry list.now) (length list.now) result }
 {
-    (copied(classes), count_classes(below, classes))
+    let n = below.states();
+    if !(1..=256).contains(&n) || list.len() != n as usize {
+        return None;
+    }
+    let count = one_above(list);
+    (all_occur(list, count) && all_agree(below, list)).then_some(count)
 }
 
-// The class of state `s`; past the 256th place it is 0.
-pub(crate) fn class_of(classes: &[u8; 256], s: u32) -> u32
-    ensures { result ≡ entry classes.now s }
+// One above the largest class.
+fn one_above(list: &[u8]) -> u32
+    ensures { OneAbove (entry list.now) (length list.now) result }
 {
-    if s < 256 {
-        classes[s as usize] as u32
-    } else {
-        0
-    }
+    list.iter()
+        .max()
+        .map_or(0, |largest| u32::from(*largest) + 1)
+}
+
+// Whether every class below `count` occurs.
+fn all_occur(list: &[u8], count: u32) -> bool
+    ensures { Decides result ((a : ℕ) → a < count → Occurs (entry list.now) (length list.now) a) }
+{
+    (0..count).all(|class| occurs(list, class))
+}
+
+fn occurs(list: &[u8], class: u32) -> bool
+    ensures { Decides result (Occurs (entry list.now) (length list.now) class) }
+{
+    list.iter().any(|named| u32::from(*named) == class)
+}
+
+fn all_agree<S: Source>(below: &S, list: &[u8]) -> bool
+    requires { (S.Source.meaning below.now).states ≡ length list.now }
+    ensures { Decides result ((s : ℕ) → s < length list.now → Agrees (S.Source.meaning below.now) (entry list.now) (length list.now) s) }
+{
+    (0..below.states()).all(|s| agrees(below, list, s))
+}
+
+// Whether state `s` and its classmates agree on the goal mark.
+fn agrees<S: Source>(below: &S, list: &[u8], s: u32) -> bool
+    requires listed { (S.Source.meaning below.now).states ≡ length list.now }
+    requires within { s < length list.now }
+    ensures { Decides result (Agrees (S.Source.meaning below.now) (entry list.now) (length list.now) s) }
+{
+    let goal = below.is_goal(s);
+    (0..below.states()).all(|t| list[s as usize] != list[t as usize] || below.is_goal(t) == goal)
 }

@@ -1,97 +1,44 @@
 // The quotient layer: the states of one class become one state.
-ghost use Rattle.std.specs.Prelude.{◌≡◌, ◌-◌, ◌^◌, ◌<◌, if◌then◌else◌, nat_lt};
+ghost use Rattle.std.specs.Prelude.{◌≡◌, ◌<◌, ◌↔◌, ◌==◌, IsSome, IfSome, Some};
 ghost use Rattle.mdp.specs.Values.{entry};
-ghost use Rattle.quotient.specs.Quotient.{into, goal_to, choices_of, weight_of, quotient, Divided};
-ghost use Rattle.quotient.specs.Working.{Owner};
+ghost use Rattle.quotient.specs.Quotient.{into, goal_to, choices_of, weight_between, layer, Divided};
+ghost use Rattle.quotient.specs.Working.{IsClassSum, Owner};
 ghost use Rattle.std.proofs.Common.{rules};
 
-use crate::classes::{class_of, divide};
+use crate::classes::Classes;
 use mdp::Source;
 
 // Any source, with a class for each of its states.
 #[derive(Drop)]
 pub struct Quotient<S> {
     below: S,
-    classes: [u8; 256],
-    // How many classes there are; 0 where the list is not lawful.
-    count: u32,
+    // None where the list is not lawful.
+    classes: Option<Classes>,
 }
 
 impl<S: Source> Quotient<S> {
     pub fn new(below: S, classes: &[u8]) -> Self
         ensures below { result.below ≡ below }
-        ensures divided { Divided (S.Source.meaning below) classes.now result.classes result.count }
+        ensures divided { Divided (S.Source.meaning below) classes.now result.classes }
     {
-        let (classes, count) = divide(&below, classes);
-        Quotient {
-            below,
-            classes,
-            count,
-        }
+        let classes = Classes::of_list(&below, classes);
+        Quotient { below, classes }
     }
 
-    fn has_goal(&self, class: u32) -> bool
-        ensures { result ≡ goal_to (S.Source.meaning self.now.below) (entry self.now.classes) class (S.Source.meaning self.now.below).states }
+    // The class of this number, where there is one.
+    fn class(&self, number: u32) -> Option<Class<'_, S>>
+        ensures there { IsSome result ↔ (number < (layer (S.Source.meaning self.now.below) self.now.classes).states) }
+        ensures class { IfSome result
+            (λ k. (k.below.now ≡ self.now.below) × (self.now.classes ≡ Some k.classes.now) × (k.number ≡ number)) }
     {
-        for s in 0..self.below.states() {
-            if class_of(&self.classes, s) == class && self.below.is_goal(s) {
-                return true;
-            }
+        match &self.classes {
+            Some(classes) if number < classes.count => Some(Class {
+                below: &self.below,
+                classes,
+                number,
+            }),
+            _ => None,
         }
-        false
-    }
-
-    fn choices_of(&self, class: u32) -> u32
-        ensures { result ≡ choices_of (S.Source.meaning self.now.below) (entry self.now.classes) class }
-    {
-        let mut total: u32 = 0;
-        for s in 0..self.below.states() {
-            if class_of(&self.classes, s) == class {
-                total = total.saturating_add(self.below.choices(s));
-            }
-        }
-        total
-    }
-
-    // The state whose choice is choice `c` of the class, and the choice's number there.
-    fn owner(&self, class: u32, c: u32) -> Option<(u32, u32)>
-        ensures { Owner (S.Source.meaning self.now.below) (entry self.now.classes) class c result }
-    {
-        let mut rest = c;
-        for s in 0..self.below.states() {
-            if class_of(&self.classes, s) == class {
-                let k = self.below.choices(s);
-                if rest < k {
-                    return Some((s, rest));
-                }
-                rest -= k;
-            }
-        }
-        None
-    }
-
-    // What choice `c` of the class gives to the class `target`.
-    fn weight_of(&self, class: u32, c: u32, target: u32) -> u32
-        requires { c < 2 ^ 32 - 1 }
-        ensures { result ≡ (if nat_lt c (choices_of (S.Source.meaning self.now.below) (entry self.now.classes) class) then weight_of (S.Source.meaning self.now.below) (entry self.now.classes) class c target else 0) }
-    {
-        match self.owner(class, c) {
-            Some((s, d)) => self.weight_into(s, d, target),
-            None => 0,
-        }
-    }
-
-    // What choice `d` of state `s` gives to the class.
-    fn weight_into(&self, s: u32, d: u32, class: u32) -> u32
-        ensures { result ≡ into (S.Source.meaning self.now.below) (entry self.now.classes) s d class }
-    {
-        let mut total: u32 = 0;
-        for t in 0..self.below.states() {
-            if class_of(&self.classes, t) == class {
-                total = total.saturating_add(self.below.weight(s, d, t));
-            }
-        }
-        total
     }
 }
 
@@ -100,40 +47,125 @@ impl<S: Source> Source for Quotient<S> {
 
     ghost LETTER = { 81 };
 
-    ghost meaning = { λ q. quotient (S.Source.meaning q.below) (entry q.classes) q.count };
+    ghost meaning = { λ q. layer (S.Source.meaning q.below) q.classes };
 
     ghost bounded = { Prim.search rules };
 
     fn states(&self) -> u32 {
-        self.count
+        self.classes.as_ref().map_or(0, |classes| classes.count)
     }
 
     fn denominator(&self) -> u32 {
-        if self.count == 0 {
-            0
-        } else {
-            self.below.denominator()
-        }
+        self.classes
+            .as_ref()
+            .map_or(0, |_| self.below.denominator())
     }
 
     fn is_goal(&self, s: u32) -> bool {
-        s < self.count && self.has_goal(s)
+        self.class(s).is_some_and(|class| class.has_goal())
     }
 
     fn choices(&self, s: u32) -> u32 {
-        if s < self.count {
-            self.choices_of(s)
-        } else {
-            0
-        }
+        self.class(s).map_or(0, |class| class.choices())
     }
 
     fn weight(&self, s: u32, c: u32, t: u32) -> u32 {
-        // No class has a choice of the last number, since at most that many are counted.
-        if s < self.count && t < self.count && c < u32::MAX {
-            self.weight_of(s, c, t)
-        } else {
-            0
+        match (self.class(s), self.class(t)) {
+            (Some(from), Some(to)) => from.weight(c, &to),
+            _ => 0,
         }
+    }
+}
+
+// A choice of a state, by its number there.
+#[derive(Clone, Copy)]
+struct Choice {
+    state: u32,
+    number: u32,
+}
+
+// One class of the states below.
+#[derive(Drop)]
+struct Class<'a, S> {
+    below: &'a S,
+    classes: &'a Classes,
+    number: u32,
+}
+
+impl<'a, S: Source> Class<'a, S> {
+    fn has(&self, s: u32) -> bool
+        ensures { result ≡ (entry self.now.classes.now.of_state s == self.now.number) }
+    {
+        self.classes.class_of(s) == self.number
+    }
+
+    fn has_goal(&self) -> bool
+        ensures { result ≡ goal_to (S.Source.meaning self.now.below.now) (entry self.now.classes.now.of_state) self.now.number
+            (S.Source.meaning self.now.below.now).states }
+    {
+        (0..self.below.states()).any(|s| self.has(s) && self.below.is_goal(s))
+    }
+
+    #[tactic(auto, unfolding(crate::specs::Quotient::choices_of))]
+    fn choices(&self) -> u32
+        ensures { result ≡ choices_of (S.Source.meaning self.now.below.now) (entry self.now.classes.now.of_state) self.now.number }
+    {
+        self.sum(|s| self.below.choices(s))
+    }
+
+    // The state whose choice is choice `c` of the class.
+    #[tactic(auto, using(crate::proofs::ByClass::class_steps))]
+    fn owner(&self, c: u32) -> Option<Choice>
+        ensures { Owner (S.Source.meaning self.now.below.now) (entry self.now.classes.now.of_state) self.now.number c result }
+    {
+        // A loop, since what is left of `c` goes on from state to state.
+        let mut rest = c;
+        for s in 0..self.below.states() {
+            if self.has(s) {
+                let k = self.below.choices(s);
+                if rest < k {
+                    return Some(Choice {
+                        state: s,
+                        number: rest,
+                    });
+                }
+                rest -= k;
+            }
+        }
+        None
+    }
+
+    // What choice `c` of the class gives to another class of the list.
+    #[tactic(auto, using(crate::proofs::Quotients::choices_steps))]
+    fn weight(&self, c: u32, to: &Class<'_, S>) -> u32
+        requires same_below { to.now.below.now ≡ self.now.below.now }
+        requires same_classes { to.now.classes.now ≡ self.now.classes.now }
+        ensures { result ≡ weight_between (S.Source.meaning self.now.below.now) (entry self.now.classes.now.of_state) self.now.number c to.now.number }
+    {
+        match self.owner(c) {
+            // No class has a choice of the last number, since at most that many are counted.
+            Some(choice) if c < u32::MAX => to.given_by(choice),
+            _ => 0,
+        }
+    }
+
+    // What the choice gives to the class.
+    #[tactic(auto, unfolding(crate::specs::Quotient::into))]
+    fn given_by(&self, choice: Choice) -> u32
+        ensures { result ≡ into (S.Source.meaning self.now.below.now) (entry self.now.classes.now.of_state)
+            choice.state choice.number self.now.number }
+    {
+        self.sum(|t| self.below.weight(choice.state, choice.number, t))
+    }
+
+    // The sum over the states of the class, at most 4,294,967,295.
+    fn sum<F: Fn(u32) -> u32>(&self, f: F) -> u32
+        requires { F.IsAlwaysCallable f }
+        ensures { IsClassSum (F.post f) (entry self.now.classes.now.of_state) self.now.number
+            (S.Source.meaning self.now.below.now).states result }
+    {
+        (0..self.below.states())
+            .filter(|s| self.has(*s))
+            .fold(0, |total: u32, s| total.saturating_add(f(s)))
     }
 }

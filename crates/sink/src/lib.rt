@@ -3,7 +3,7 @@
 
 ghost use Rattle.std.specs.Prelude.{◌≡◌};
 ghost use Rattle.mdp.specs.Sound.{Sound};
-ghost use Rattle.sink.specs.Sink.{sinked, SoundOnceSinked};
+ghost use Rattle.sink.specs.Sink.{stuck, sinked, SoundOnceSinked};
 ghost use Rattle.std.proofs.Common.{rules};
 
 use mdp::Source;
@@ -28,6 +28,13 @@ impl<S: Source> Sink<S> {
     fn is_sound_once_sinked(&self)
         ensures { SoundOnceSinked (S.Source.meaning self.now.below) → Sound (sinked (S.Source.meaning self.now.below)) }
     {}
+
+    // Whether it is a state below without choices.
+    fn is_stuck(&self, s: u32) -> bool
+        ensures { result ≡ stuck (S.Source.meaning self.now.below) s }
+    {
+        self.below.choices(s) == 0 && s < self.below.states()
+    }
 }
 
 impl<S: Source> Source for Sink<S> {
@@ -52,23 +59,20 @@ impl<S: Source> Source for Sink<S> {
     }
 
     fn choices(&self, s: u32) -> u32 {
-        let n = self.below.choices(s);
-        if n == 0 && s < self.below.states() {
+        if self.is_stuck(s) {
             1
         } else {
-            n
+            self.below.choices(s)
         }
     }
 
     fn weight(&self, s: u32, c: u32, t: u32) -> u32 {
-        if self.below.choices(s) == 0 && s < self.below.states() {
-            if c == 0 && t == s {
-                self.below.denominator()
-            } else {
-                0
-            }
-        } else {
+        if !self.is_stuck(s) {
             self.below.weight(s, c, t)
+        } else if c == 0 && t == s {
+            self.below.denominator()
+        } else {
+            0
         }
     }
 }

@@ -1,9 +1,6 @@
-use Rattle.std.proofs.Common.{arith}
-use Rattle.quotient.proofs.Filled.{filled_more, filled_all}
+use Rattle.mdp.proofs.Zeros.{zeros_everywhere}
+use Rattle.quotient.proofs.Lawfulness.{padded}
 use Rattle.quotient.proofs.classes.copied.Goals as goal
 
-pub loop-i-preserved : goal.loop-i-preserved
-loop-i-preserved c = filled_more c.args.classes.now c.loop-i.copy c.loop-i.i (omega arith) c.loop-i.invariant
-
 pub returns : goal.returns
-returns c = λ l. filled_all c.args.classes.now c.loop-i.copy c.loop-i.i (omega arith) c.loop-i.invariant
+returns c = padded c.args.list.now c.copy_from_slice.new.self _ c.copy_from_slice.ensures.after (zeros_everywhere 256)
