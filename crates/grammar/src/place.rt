@@ -93,14 +93,16 @@ impl Place {
             }),
             (Place::Within { .. } | Place::States { .. }, Record::Zz) => Some(Place::Done),
             (Place::Within { kind, last }, _) => ascended(kind, last, item),
-            (Place::States { n, states, .. }, Record::St { goal, choices }) => (goal
-                <= 1).then_some(Place::States {
-                n,
-                states: states.saturating_sub(1),
-                choices,
-            }),
-            (Place::States { n, states, choices }, Record::Ch { entries }) => {
-                branches_ok(entries, n).then_some(Place::States {
+            (Place::States { n, states, .. }, Record::St { goal, choices }) if goal <= 1 => {
+                Some(Place::States {
+                    n,
+                    states: states.saturating_sub(1),
+                    choices,
+                })
+            }
+            (Place::States { n, states, choices }, Record::Ch { entries })
+                if branches_ok(entries, n) => {
+                Some(Place::States {
                     n,
                     states,
                     choices: choices.saturating_sub(1),
