@@ -28,7 +28,7 @@ module _ (xs : List ℕ) where
   reads_record : (p : Place) (at : ℕ) (r : Content) (zs : List ℕ) → drop at xs ≡ encode r ++ zs → Fits r → allowed p (mark_of r) ≡ true → fits p r ≡ true → got r (at + length (encode r)) ≡ record_at p xs at
   reads_record p at r zs e g a n =
       let s = stands xs zs at r e g in
-      record_got p xs at (mark_of r) r (at + length (encode r)) (sym s.mark) a (let z = s.size in let w = s.room in omega arith) (sym s.content) (ap (λ k. at + k) (sym s.size)) n
+      record_got p xs at (mark_of r) (sym s.mark) a r (at + length (encode r)) (let z = s.size in let w = s.room in omega arith) (sym s.content) (ap (λ k. at + k) (sym s.size)) n
 
   -- reading goes through records that stand there and follow one another
   follow : (ds : List Content) (p q : Place) (at : ℕ) (ys : List ℕ) → Leads p ds q → AllFit ds → drop at xs ≡ encodes ds ++ ys → reading p xs at ≡ prefixed ds (reading q xs (at + length (encodes ds)))

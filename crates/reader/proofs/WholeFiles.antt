@@ -1,20 +1,20 @@
 -- What is promised of readers and of whole files, from the one true reading.
-use Rattle.std.proofs.Common.{◌≡◌, ℕ, ◌<◌, ◌≤◌, List, length, get_or, Ok, Err, Result, sym, refl, ap, ◌∙◌, subst, inl, inr, arith}
+use Rattle.std.proofs.Common.{◌≡◌, ℕ, ◌<◌, ◌≤◌, List, length, get_or, Ok, Err, Result, ◌⊎◌, sym, refl, ap, ◌∙◌, subst, inl, inr, arith}
 use Rattle.records.specs.Content.{Content}
-use Rattle.grammar.specs.declared.place.Place.{Place}
-use Rattle.grammar.specs.declared.place.Place.TheVariants.{HandInDue, ModelDue, Within, States, Done}
-use Rattle.grammar.specs.HandIn.{HandIn}
-use Rattle.grammar.specs.ModelFile.{ModelFile}
+use Rattle.grammar.specs.declared.place.Place.TheVariants.{HandInDue, ModelDue}
 use Rattle.grammar.specs.File.{Reads}
 use Rattle.grammar.proofs.HandIns.{lawful_hand_in, hand_in_lawful}
 use Rattle.grammar.proofs.ModelFiles.{lawful_model_file, model_file_lawful}
 use Rattle.reader.specs.declared.fault.ReadFault.{ReadFault}
 use Rattle.reader.specs.declared.fault.ReadFault.TheVariants as faults
+use Rattle.reader.specs.declared.format.Format.{Format}
+use Rattle.reader.specs.declared.format.Format.TheVariants.{HandIn, ModelFile}
 use Rattle.reader.specs.declared.reading.Reader.{Reader}
+use Rattle.reader.specs.Format.{IsFile, start_of}
 use Rattle.reader.specs.Faults.{number_of, place_of}
 use Rattle.reader.specs.Exact.{stopped, fault, Reading, read, True, Exactly}
 use Rattle.reader.specs.Reading.{reading}
-use Rattle.reader.specs.Answer.{rest_of, Alone, ReadsWhole, Due, SoleDue}
+use Rattle.reader.specs.Answer.{rest_of, ReadsWhole, Sole}
 use Rattle.reader.proofs.OneTrue.{exactly}
 
 -- a fault is known by its number and its place
@@ -36,29 +36,36 @@ same_fault (faults.Surplus a) (faults.BadMark b) n p = absurd (omega arith)
 same_fault (faults.Surplus a) (faults.BadField b) n p = absurd (omega arith)
 same_fault (faults.Surplus a) (faults.Surplus b) n p = ap faults.Surplus p
 
+-- the file that is read at the start of the bytes is all that there is; else its fault, or a byte that follows
+abbrev Alone : List ℕ → Reading → Result (Unit {0}) ReadFault → Type 0
+Alone xs v (Ok u) = (rs : List Content) × (behind : ℕ) × (v ≡ read rs (stopped behind)) × (length xs ≤ behind)
+Alone xs v (Err f) =
+    ((rs : List Content) × (v ≡ read rs (fault (number_of f) (place_of f))))
+    ⊎ ((number_of f ≡ 4) × ((rs : List Content) × (v ≡ read rs (stopped (place_of f)))) × (place_of f < length xs))
+
 -- what is read whole, or else the first fault, from the one true reading
-module _ (W : List Content → Type 0) (r : Reader) (xs : List ℕ) (b : r.bytes.now ≡ xs) (e : Exactly W xs 0 (rest_of r)) where
-  reads_whole : (o : ℕ) (rs : List Content) → rest_of r ≡ read rs (stopped o) → length xs ≤ o → Reads W xs 0 (length xs) rs
+module _ (W : List Content → Type 0) (xs : List ℕ) (v : Reading) (e : Exactly W xs 0 v) where
+  reads_whole : (o : ℕ) (rs : List Content) → v ≡ read rs (stopped o) → length xs ≤ o → Reads W xs 0 (length xs) rs
   reads_whole o rs h l =
       let t : True W xs 0 (read rs (stopped o)) = subst (True W xs 0) h e.holds in
       let z : o ≡ length xs = let k = t.within in omega arith in
       subst (λ k. Reads W xs 0 k rs) z t
 
-  pub alone_whole : (a : Result (Unit {0}) ReadFault) → Alone r a → ReadsWhole W xs a
-  alone_whole (Ok u) h = (h.0, reads_whole h.1 h.0 h.2 (subst (λ ys. length ys ≤ h.1) b h.3))
+  alone_whole : (a : Result (Unit {0}) ReadFault) → Alone xs v a → ReadsWhole W xs a
+  alone_whole (Ok u) h = (h.0, reads_whole h.1 h.0 h.2 h.3)
   alone_whole (Err f) (inl h) = let t : True W xs 0 (read h.0 (fault (number_of f) (place_of f))) = subst (True W xs 0) h.1 e.holds in inl (h.0, t.0, t.1)
   alone_whole (Err f) (inr h) =
-      inr (h.0, (h.1.0, subst (True W xs 0) h.1.1 e.holds), subst (λ ys. place_of f < length ys) b h.2)
+      inr (h.0, (h.1.0, subst (True W xs 0) h.1.1 e.holds), h.2)
 
   -- and the other way round
-  whole_alone : (a : Result (Unit {0}) ReadFault) → ReadsWhole W xs a → Alone r a
-  whole_alone (Ok u) h = (h.0, length xs, sym (e.only (read h.0 (stopped (length xs))) h.1), subst (λ ys. length ys ≤ length xs) (sym b) (omega arith))
+  whole_alone : (a : Result (Unit {0}) ReadFault) → ReadsWhole W xs a → Alone xs v a
+  whole_alone (Ok u) h = (h.0, length xs, sym (e.only (read h.0 (stopped (length xs))) h.1), omega arith)
   whole_alone (Err f) (inl h) = inl (h.0, sym (e.only (read h.0 (fault (number_of f) (place_of f))) (h.1, h.2)))
   whole_alone (Err f) (inr h) =
-      inr (h.0, (h.1.0, sym (e.only (read h.1.0 (stopped (place_of f))) h.1.1)), subst (λ ys. place_of f < length ys) (sym b) h.2)
+      inr (h.0, (h.1.0, sym (e.only (read h.1.0 (stopped (place_of f))) h.1.1)), h.2)
 
   -- two answers that both say how the reading ends are one
-  one_answer : (a c : Result (Unit {0}) ReadFault) → Alone r a → Alone r c → a ≡ c
+  one_answer : (a c : Result (Unit {0}) ReadFault) → Alone xs v a → Alone xs v c → a ≡ c
   one_answer (Ok u) (Ok v) h k = refl
   one_answer (Ok u) (Err g) h (inl k) = let p = h.2 in let q = k.1 in let z : ◌≡◌ {A = ℕ} 0 1 = cc in absurd (omega arith)
   one_answer (Ok u) (Err g) h (inr k) = let p = h.2 in let q = k.1.1 in let z : h.1 ≡ place_of g = cc in absurd (omega (arith, h.3, k.2))
@@ -69,20 +76,10 @@ module _ (W : List Content → Type 0) (r : Reader) (xs : List ℕ) (b : r.bytes
   one_answer (Err f) (Err g) (inr h) (inl k) = let p = h.1.1 in let q = k.1 in let z : ◌≡◌ {A = ℕ} 0 1 = cc in absurd (omega arith)
   one_answer (Err f) (Err g) (inr h) (inr k) = let p = h.1.1 in let q = k.1.1 in ap Err (same_fault f g (h.0 ∙ sym k.0) (cc))
 
-  pub whole_only : (a : Result (Unit {0}) ReadFault) → Alone r a → (other : Result (Unit {0}) ReadFault) → ReadsWhole W xs other → other ≡ a
-  whole_only a h other k = one_answer other a (whole_alone other k) h
+  pub sole : (a : Result (Unit {0}) ReadFault) → Alone xs v a → Sole W xs a
+  sole a h = record { right = alone_whole a h; only = λ other k. one_answer other a (whole_alone other k) h }
 
--- what is promised at the place where a unit is due
-pub due : (p : Place) (xs : List ℕ) → ((j : ℕ) → get_or xs j 0 < 256) → (at : ℕ) (v : Reading) → v ≡ reading p xs at → Due p xs at v
-due HandInDue xs f at v e = subst (Exactly HandIn xs at) (sym e) (exactly HandInDue HandIn lawful_hand_in hand_in_lawful xs f at refl)
-due ModelDue xs f at v e = subst (Exactly ModelFile xs at) (sym e) (exactly ModelDue ModelFile lawful_model_file model_file_lawful xs f at refl)
-due (Within kind last) xs f at v e = tt
-due (States n states choices) xs f at v e = tt
-due Done xs f at v e = tt
-
-pub sole_due : (p : Place) (r : Reader) (xs : List ℕ) → r.bytes.now ≡ xs → Due p xs 0 (rest_of r) → (a : Result (Unit {0}) ReadFault) → Alone r a → SoleDue p xs a
-sole_due HandInDue r xs b e a h = record { right = alone_whole HandIn r xs b e a h; only = whole_only HandIn r xs b e a h }
-sole_due ModelDue r xs b e a h = record { right = alone_whole ModelFile r xs b e a h; only = whole_only ModelFile r xs b e a h }
-sole_due (Within kind last) r xs b e a h = tt
-sole_due (States n states choices) r xs b e a h = tt
-sole_due Done r xs b e a h = tt
+-- the reading of a file of a format, from its start on
+pub exactly_file : (m : Format) (xs : List ℕ) → ((j : ℕ) → get_or xs j 0 < 256) → (at : ℕ) → Exactly (IsFile m) xs at (reading (start_of m) xs at)
+exactly_file HandIn xs f at = exactly HandInDue (IsFile HandIn) lawful_hand_in hand_in_lawful xs f at refl
+exactly_file ModelFile xs f at = exactly ModelDue (IsFile ModelFile) lawful_model_file model_file_lawful xs f at refl
