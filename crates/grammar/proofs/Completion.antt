@@ -40,10 +40,6 @@ module _ (kind : Kind) (last : Key) where
   next_state b e = let p : precedes last (next_key b) ≡ true = grind (arith, nat_tests) in rw ((and_parts (leb 1 b) _ e).0, p) refl
 
   within_record : (m : Mark) → allowed (Within kind last) m ≡ true → (r : Content) × (mark_of r ≡ m) × (fits (Within kind last) r ≡ true)
-  within_record Md a = absurd (false≢true a)
-  within_record St a = absurd (false≢true a)
-  within_record Ch a = absurd (false≢true a)
-  within_record Hd a = absurd (false≢true a)
   within_record Ce a = (ce (last.state + 1) 0, refl, next_state (block (number_of kind) Ce) a)
   within_record Fl a = (fl (last.state + 1) 0, refl, next_state (block (number_of kind) Fl) a)
   within_record Pc a = (pc (last.state + 1) 0, refl, next_state (block (number_of kind) Pc) a)
@@ -51,6 +47,7 @@ module _ (kind : Kind) (last : Key) where
   within_record Rw a = (rw' (last.state + 1) 0, refl, next_state (block (number_of kind) Rw) a)
   within_record Wf a = (wf (last.state + 1) 0 0 0 [], refl, next_state (block (number_of kind) Wf) a)
   within_record Zz a = (zz, refl, refl)
+  within_record m a = absurd (false≢true a)
 
 -- in a model file: the mark that is next
 states_record : (n states choices : ℕ) (m : Mark) → m ≡ wanted states choices → (r : Content) × (mark_of r ≡ m) × (fits (States n states choices) r ≡ true)

@@ -16,11 +16,8 @@ follows_unless_over p [] e h = absurd (true≢false (sym h ∙ e))
 follows_unless_over p (r ∷ rs) e h = (r, h.0, h.1)
 
 pub not_over : (p : Place) (m : Mark) → allowed p m ≡ true → over p ≡ false
-not_over HandInDue m a = refl
-not_over ModelDue m a = refl
-not_over (Within kind last) m a = refl
-not_over (States n states choices) m a = refl
 not_over Done m a = absurd (false≢true a)
+not_over p m a = refl
 
 -- where the files W are what is lawful from `start` on
 module _ (start : Place) (W : List Content → Type 0) (to : (rs : List Content) → Lawful start rs → W rs) (from : (rs : List Content) → W rs → Lawful start rs) where

@@ -46,10 +46,7 @@ head_kind (suc (suc (suc (suc (suc (suc n)))))) side e = let l : suc (suc (suc (
 
 kind_of-number_of : (kind : Kind) → kind_of (number_of kind) ≡ Some kind
 kind_of-number_of Ceilings = refl
-kind_of-number_of Floors = refl
-kind_of-number_of Classes = refl
-kind_of-number_of Relation = refl
-kind_of-number_of Carry = refl
+kind_of-number_of kind = refl
 
 -- what holds of a record of the kind
 record Own (kind : Kind) (last : Key) (r : Content) : Type 0 where

@@ -1,6 +1,7 @@
 -- Records that follow one another, as the places that they lead through allow.
-use Rattle.std.proofs.Common.{◌≡◌, true, Some, None, Option, is_some, unwrap_or, List, [], ◌∷◌, ◌++◌, sym, refl, ap, ◌∙◌, subst, append_assoc}
+use Rattle.std.proofs.Common.{◌≡◌, true, Some, None, Option, is_some, unwrap_or, List, [], ◌∷◌, ◌++◌, sym, refl, ap, ◌∙◌, subst}
 use Rattle.std.proofs.lemmas.Bool.{false≢true}
+use Rattle.std.proofs.lemmas.Grind.{flat_map-append}
 use Rattle.records.specs.Content.{Content, mark_of}
 use Rattle.records.specs.Encode.{encode, Fits}
 use Rattle.grammar.specs.File.{encodes, AllFit}
@@ -46,11 +47,8 @@ front_leads (d ∷ ds) rs p h = let f = front_leads ds rs (after p d) h.2 in (f.
 
 -- the end is the one place that is over
 over_done : (p : Place) → over p ≡ true → p ≡ Done
-over_done HandInDue e = absurd (false≢true e)
-over_done ModelDue e = absurd (false≢true e)
-over_done (Within kind last) e = absurd (false≢true e)
-over_done (States n states choices) e = absurd (false≢true e)
 over_done Done e = refl
+over_done p e = absurd (false≢true e)
 
 pub lawful_leads : (rs : List Content) (p : Place) → Lawful p rs → Leads p rs Done
 lawful_leads [] p h = over_done p h
@@ -72,5 +70,4 @@ all_fit_push (s ∷ rs) r a f = (a.0, all_fit_push rs r a.1 f)
 
 -- the bytes of two lists of records, one after the other
 pub encodes-append : (ds rs : List Content) → encodes (ds ++ rs) ≡ encodes ds ++ encodes rs
-encodes-append [] rs = refl
-encodes-append (d ∷ ds) rs = ap (λ ys. encode d ++ ys) (encodes-append ds rs) ∙ sym (append_assoc (encode d) (encodes ds) (encodes rs))
+encodes-append ds rs = flat_map-append encode ds rs

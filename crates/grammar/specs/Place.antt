@@ -50,11 +50,8 @@ abbrev pub after : Place → Content → Place
 after p r = unwrap_or (behind p r) p
 
 abbrev pub over : Place → Bool
-over HandInDue = false
-over ModelDue = false
-over (Within kind last) = false
-over (States n states choices) = false
 over Done = true
+over p = false
 
 -- the records lead from the place p to the place q: each may follow where it stands
 abbrev pub Leads : Place → List Content → Place → Type 0

@@ -48,12 +48,11 @@ impl Kind {
         ensures { result ≡ block_of self mark }
     {
         match (self, mark) {
-            (Kind::Ceilings, Mark::Ce) => Some(1),
-            (Kind::Floors, Mark::Fl) => Some(1),
-            (Kind::Classes, Mark::Pc) => Some(1),
-            (Kind::Classes, Mark::Pm) => Some(2),
-            (Kind::Relation, Mark::Rw) => Some(1),
-            (Kind::Relation, Mark::Wf) => Some(2),
+            (Kind::Ceilings, Mark::Ce)
+            | (Kind::Floors, Mark::Fl)
+            | (Kind::Classes, Mark::Pc)
+            | (Kind::Relation, Mark::Rw) => Some(1),
+            (Kind::Classes, Mark::Pm) | (Kind::Relation, Mark::Wf) => Some(2),
             _ => None,
         }
     }

@@ -15,16 +15,7 @@ use Rattle.reader.specs.Exact.{Marked, Begins}
 -- the letters of a mark spell it
 pub spelled : (m : Mark) → mark_spelled (first_letter m) (second_letter m) ≡ Some m
 spelled Md = refl
-spelled St = refl
-spelled Ch = refl
-spelled Hd = refl
-spelled Ce = refl
-spelled Fl = refl
-spelled Pc = refl
-spelled Pm = refl
-spelled Rw = refl
-spelled Wf = refl
-spelled Zz = refl
+spelled m = refl
 
 -- a mark whose letters stand there is the mark there
 pub marked_mark : (xs : List ℕ) (at : ℕ) (m : Mark) → Marked (drop at xs) m → mark_at xs at ≡ Ok m

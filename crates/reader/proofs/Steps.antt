@@ -31,16 +31,7 @@ Lies xs at (refused n o) = at ≡ o
 
 size_least : (m : Mark) (xs : List ℕ) (at : ℕ) → 2 ≤ size m xs at
 size_least Md xs at = omega arith
-size_least St xs at = omega arith
-size_least Ch xs at = omega arith
-size_least Hd xs at = omega arith
-size_least Ce xs at = omega arith
-size_least Fl xs at = omega arith
-size_least Pc xs at = omega arith
-size_least Pm xs at = omega arith
-size_least Rw xs at = omega arith
-size_least Wf xs at = omega arith
-size_least Zz xs at = omega arith
+size_least m xs at = omega arith
 
 within_or : (xs : List ℕ) (at : ℕ) (b : Bool) (x y : Outcome) → (b ≡ true → Lies xs at x) → (b ≡ false → Lies xs at y) → Lies xs at (cond b x y)
 within_or xs at true x y f g = f refl

@@ -20,21 +20,10 @@ use Rattle.reader.proofs.OneTrue.{exactly}
 -- a fault is known by its number and its place
 same_fault : (f g : ReadFault) → number_of f ≡ number_of g → place_of f ≡ place_of g → f ≡ g
 same_fault (faults.Ends a) (faults.Ends b) n p = ap faults.Ends p
-same_fault (faults.Ends a) (faults.BadMark b) n p = absurd (omega arith)
-same_fault (faults.Ends a) (faults.BadField b) n p = absurd (omega arith)
-same_fault (faults.Ends a) (faults.Surplus b) n p = absurd (omega arith)
-same_fault (faults.BadMark a) (faults.Ends b) n p = absurd (omega arith)
 same_fault (faults.BadMark a) (faults.BadMark b) n p = ap faults.BadMark p
-same_fault (faults.BadMark a) (faults.BadField b) n p = absurd (omega arith)
-same_fault (faults.BadMark a) (faults.Surplus b) n p = absurd (omega arith)
-same_fault (faults.BadField a) (faults.Ends b) n p = absurd (omega arith)
-same_fault (faults.BadField a) (faults.BadMark b) n p = absurd (omega arith)
 same_fault (faults.BadField a) (faults.BadField b) n p = ap faults.BadField p
-same_fault (faults.BadField a) (faults.Surplus b) n p = absurd (omega arith)
-same_fault (faults.Surplus a) (faults.Ends b) n p = absurd (omega arith)
-same_fault (faults.Surplus a) (faults.BadMark b) n p = absurd (omega arith)
-same_fault (faults.Surplus a) (faults.BadField b) n p = absurd (omega arith)
 same_fault (faults.Surplus a) (faults.Surplus b) n p = ap faults.Surplus p
+same_fault f g n p = absurd (omega arith)
 
 -- the file that is read at the start of the bytes is all that there is; else its fault, or a byte that follows
 abbrev Alone : List ℕ → Reading → Result (Unit {0}) ReadFault → Type 0
