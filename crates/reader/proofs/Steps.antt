@@ -1,7 +1,7 @@
 -- The reading of a unit, one record at a time.
 use Rattle.std.proofs.Common.{◌≡◌, ℕ, zero, suc, ◌+◌, ◌-◌, ◌≤◌, Bool, true, false, cond, ◌&&◌, ltb, List, [], ◌∷◌, ◌++◌, length, Some, Ok, Err, Option, Result, is_ok, sym, refl, ap, ◌∙◌, subst, append_assoc, arith}
 use Rattle.std.specs.Result.{MatchResult, IsErrAnd}
-use Rattle.std.proofs.lemmas.Bool.{lt-ltb, le-ltb, ltb-false, cond-true, cond-false, and_parts, true≢false}
+use Rattle.std.proofs.lemmas.Bool.{lt-ltb, le-ltb, ltb-false, cond_both, cond-true, cond-false, and_parts, true≢false}
 use Rattle.std.proofs.lemmas.Result.{err_from_is_err_and}
 use Rattle.records.specs.declared.content.Mark.{Mark}
 use Rattle.records.specs.declared.content.Mark.TheVariants.{Md, St, Ch, Hd, Ce, Fl, Pc, Pm, Rw, Wf, Zz}
@@ -33,17 +33,13 @@ size_least : (m : Mark) (xs : List ℕ) (at : ℕ) → 2 ≤ size m xs at
 size_least Md xs at = omega arith
 size_least m xs at = omega arith
 
-within_or : (xs : List ℕ) (at : ℕ) (b : Bool) (x y : Outcome) → (b ≡ true → Lies xs at x) → (b ≡ false → Lies xs at y) → Lies xs at (cond b x y)
-within_or xs at true x y f g = f refl
-within_or xs at false x y f g = g refl
-
 within_mark : (p : Place) (xs : List ℕ) (at : ℕ) (m : Result Mark NoMark) → Lies xs at (at_mark p xs at m)
 within_mark p xs at (Err Cut) = refl
 within_mark p xs at (Err Unknown) = refl
 within_mark p xs at (Ok m) =
-    within_or xs at (allowed p m) _ _
-    (λ a. within_or xs at (ltb (length xs) (at + size m xs at)) _ _ (λ e. refl)
-    (λ e. within_or xs at (fits p (decoded m xs at)) _ _ (λ f. (omega (arith, size_least m xs at), ltb-false (length xs) (at + size m xs at) e)) (λ f. refl)))
+    cond_both (allowed p m) _ _ (Lies xs at)
+    (λ a. cond_both (ltb (length xs) (at + size m xs at)) _ _ (Lies xs at) (λ e. refl)
+    (λ e. cond_both (fits p (decoded m xs at)) _ _ (Lies xs at) (λ f. (omega (arith, size_least m xs at), ltb-false (length xs) (at + size m xs at) e)) (λ f. refl)))
     (λ a. refl)
 
 -- a record that was read is no longer than the bytes, and a fault stands where it was met
@@ -96,6 +92,9 @@ pub read_refused : (p : Place) (xs : List ℕ) (at n o : ℕ) → over p ≡ fal
 read_refused p xs at n o e g = read_step p xs at e ∙ ap (next_of p (onward xs)) (sym g)
 
 -- the records so far stand in front of what is read on
+pub prefixed_none : (v : Reading) → prefixed [] v ≡ v
+prefixed_none (read rs e) = refl
+
 pub prefixed_twice : (ds es : List Content) (v : Reading) → prefixed ds (prefixed es v) ≡ prefixed (ds ++ es) v
 prefixed_twice ds es (read rs e) = ap (λ ts. read ts e) (sym (append_assoc ds es rs))
 
@@ -127,7 +126,7 @@ step_refused p w r m a t e =
 
 -- a record that stands there and is allowed there
 module _ (p : Place) (xs : List ℕ) (at : ℕ) (m : Mark) (k : Ok m ≡ mark_at xs at) (a : allowed p m ≡ true) where
-  record_reached : (r : Content) → at + size m xs at ≤ length xs → r ≡ decoded m xs at → record_at p xs at ≡ cond (fits p r) (got r (at + size m xs at)) (refused 3 at)
+  pub record_reached : (r : Content) → at + size m xs at ≤ length xs → r ≡ decoded m xs at → record_at p xs at ≡ cond (fits p r) (got r (at + size m xs at)) (refused 3 at)
   record_reached r s d =
       ap (at_mark p xs at) (sym k)
       ∙ cond-true (allowed p m) _ _ a
