@@ -4,7 +4,7 @@ use Rattle.std.proofs.lemmas.Bool.{true≢false, false≢true}
 use Rattle.records.specs.declared.content.Mark.{Mark}
 use Rattle.records.specs.Content.{Content, mark_of}
 use Rattle.grammar.specs.declared.place.Place.{Place}
-use Rattle.grammar.specs.declared.place.Place.TheVariants.{HandInDue, ModelDue, Within, States, Done}
+use Rattle.grammar.specs.declared.place.Place.TheVariants.{Done}
 use Rattle.grammar.specs.Place.{allowed, fits, after, over}
 use Rattle.grammar.specs.File.{GoesOn, Allowed}
 use Rattle.grammar.proofs.Lawful.{Lawful, Leads, lawful-append, lawful_rest, front_leads}

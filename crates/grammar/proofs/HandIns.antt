@@ -1,14 +1,12 @@
 -- What is lawful from the start of a hand-in on is a hand-in, and the other way round.
-use Rattle.std.proofs.Common.{◌≡◌, ℕ, zero, suc, ◌≤◌, Bool, true, false, cond, ◌&&◌, leb, List, [], ◌∷◌, ◌++◌, ◌==◌, Some, None, Option, sym, refl, ap, ◌∙◌, subst, inl, inr, arith}
+use Rattle.std.proofs.Common.{◌≡◌, ℕ, ◌≤◌, true, ◌&&◌, leb, List, [], ◌∷◌, ◌++◌, Some, None, Option, sym, refl, ap, ◌∙◌, subst, inl, inr, arith}
 use Rattle.std.specs.Bool.{then_some}
-use Rattle.std.specs.List.{find}
 use Rattle.std.specs.Option.{option_and_then}
 use Rattle.std.proofs.lemmas.Bool.Decides.{nat_tests}
-use Rattle.std.proofs.lemmas.Bool.{false≢true, and_parts, and_from, or_cases, or_right, leb-true, le-leb, eqb-true}
+use Rattle.std.proofs.lemmas.Bool.{false≢true, and_parts, and_from, or_cases, or_right, leb-true, le-leb}
 use Rattle.records.specs.declared.content.Mark.TheVariants.{Hd, Zz}
 use Rattle.records.specs.Content.{Content, hd, ce, fl, pc, pm, rw', wf, zz, mark_of, same_mark}
 use Rattle.grammar.specs.declared.kind.Kind.{Kind}
-use Rattle.grammar.specs.declared.kind.Kind.TheVariants.{Ceilings, Floors, Classes, Relation, Carry}
 use Rattle.grammar.specs.declared.order.Key.{Key}
 use Rattle.grammar.specs.declared.place.Place.{Place}
 use Rattle.grammar.specs.declared.place.Place.TheVariants.{HandInDue, Within}
@@ -23,44 +21,26 @@ use Rattle.grammar.proofs.ModelSteps.{then_some-is}
 block_precedes : (a b : Key) → precedes a b ≡ true → a.block ≤ b.block
 block_precedes a b e = grind (arith, nat_tests)
 
--- a number of a head is that of a kind, and each kind is found by its number
-found : {X : Type 0} (p : X → Bool) (xs : List X) (x : X) → find p xs ≡ Some x → p x ≡ true
-found p [] x e = let z : ◌≡◌ {A = ℕ} 0 1 = cc in absurd (omega arith)
-found p (y ∷ ys) x e = by (p y) refl e (found p ys x)
-  where
-    by : (b : Bool) → p y ≡ b → cond b (Some y) (find p ys) ≡ Some x → (find p ys ≡ Some x → p x ≡ true) → p x ≡ true
-    by true h g more = let z : y ≡ x = cc in ap p (sym z) ∙ h
-    by false h g more = more g
-
+-- a number of a head is that of a kind
 number_of-kind_of : (n : ℕ) (kind : Kind) → kind_of n ≡ Some kind → number_of kind ≡ n
-number_of-kind_of n kind e = eqb-true (number_of kind) n (found (λ k. number_of k == n) (Ceilings ∷ Floors ∷ Classes ∷ Relation ∷ Carry ∷ []) kind e)
+number_of-kind_of n kind e = grind (arith, nat_tests)
 
-head_kind : (n side : ℕ) → head_ok n side ≡ true → (kind : Kind) × (number_of kind ≡ n)
-head_kind zero side e = absurd (false≢true e)
-head_kind (suc zero) side e = (Ceilings, refl)
-head_kind (suc (suc zero)) side e = (Floors, refl)
-head_kind (suc (suc (suc zero))) side e = (Classes, refl)
-head_kind (suc (suc (suc (suc zero)))) side e = (Relation, refl)
-head_kind (suc (suc (suc (suc (suc zero))))) side e = (Carry, refl)
-head_kind (suc (suc (suc (suc (suc (suc n)))))) side e = let l : suc (suc (suc (suc (suc (suc n))))) ≤ 5 = leb-true (suc (suc (suc (suc (suc (suc n)))))) 5 (and_parts _ _ (and_parts _ _ e).1).0 in absurd (omega arith)
-
-kind_of-number_of : (kind : Kind) → kind_of (number_of kind) ≡ Some kind
-kind_of-number_of Ceilings = refl
-kind_of-number_of kind = refl
+head_kind : (n side : ℕ) → head_ok n side ≡ true → (o : Option Kind) → kind_of n ≡ o → (kind : Kind) × (kind_of n ≡ Some kind)
+head_kind n side h (Some kind) e = (kind, e)
+head_kind n side h None e = absurd (grind (arith, nat_tests))
 
 -- what holds of a record of the kind
 record Own (kind : Kind) (last : Key) (r : Content) : Type 0 where
   behind_it : behind (Within kind last) r ≡ ascended kind last r
   in_block : (key (number_of kind) r).block ≡ block (number_of kind) (mark_of r)
-  no_end : same_mark (mark_of r) Zz ≡ false
 
 own : (kind : Kind) (last : Key) (r : Content) → 1 ≤ block (number_of kind) (mark_of r) → Own kind last r
-own kind last (ce s c) b = record { behind_it = refl; in_block = refl; no_end = refl }
-own kind last (fl s c) b = record { behind_it = refl; in_block = refl; no_end = refl }
-own kind last (pc s c) b = record { behind_it = refl; in_block = refl; no_end = refl }
-own kind last (pm s c m) b = record { behind_it = refl; in_block = refl; no_end = refl }
-own kind last (rw' s r) b = record { behind_it = refl; in_block = refl; no_end = refl }
-own kind last (wf s h c m es) b = record { behind_it = refl; in_block = refl; no_end = refl }
+own kind last (ce s c) b = record { behind_it = refl; in_block = refl }
+own kind last (fl s c) b = record { behind_it = refl; in_block = refl }
+own kind last (pc s c) b = record { behind_it = refl; in_block = refl }
+own kind last (pm s c m) b = record { behind_it = refl; in_block = refl }
+own kind last (rw' s r) b = record { behind_it = refl; in_block = refl }
+own kind last (wf s h c m es) b = record { behind_it = refl; in_block = refl }
 own kind last r b = absurd (omega arith)
 
 -- a body and the end
@@ -110,20 +90,22 @@ lawful_body kind last (r ∷ rs) h =
     ]
 
 -- the head before it
-begun-kind : (kind : Kind) (side : ℕ) → begun (number_of kind) side ≡ then_some (head_ok (number_of kind) side) (Within kind nothing)
-begun-kind kind side = ap (option_and_then (λ k. then_some (head_ok (number_of k) side) (Within k nothing))) (kind_of-number_of kind)
+abbrev begun_as : ℕ → Kind → Option Place
+begun_as side kind = then_some (head_ok (number_of kind) side) (Within kind nothing)
 
 pub hand_in_lawful : (rs : List Content) → HandIn rs → Lawful HandInDue rs
 hand_in_lawful rs h =
-    let t = head_kind h.kind h.side h.head in
-    let e : begun h.kind h.side ≡ Some (Within t.0 nothing) =
-    ap (λ n. begun n h.side) (sym t.1) ∙ begun-kind t.0 h.side ∙ ap (λ b. then_some b (Within t.0 nothing)) (ap (λ n. head_ok n h.side) t.1 ∙ h.head) in
+    let t = head_kind h.kind h.side h.head (kind_of h.kind) refl in
+    let place = Within t.0 nothing in
+    let n : number_of t.0 ≡ h.kind = number_of-kind_of h.kind t.0 t.1 in
+    let e : begun h.kind h.side ≡ Some place =
+    ap (option_and_then (begun_as h.side)) t.1 ∙ ap (λ b. then_some b place) (ap (λ k. head_ok k h.side) n ∙ h.head) in
     subst (Lawful HandInDue) (sym h.shape)
-    (lawful_more HandInDue (Within t.0 nothing) (hd h.kind h.side) (h.body ++ zz ∷ []) refl e
-    (body_lawful t.0 nothing h.body (subst (λ n. Body n nothing h.body) (sym t.1) h.ascending)))
+    (lawful_more HandInDue place (hd h.kind h.side) (h.body ++ zz ∷ []) refl e
+    (body_lawful t.0 nothing h.body (subst (λ k. Body k nothing h.body) (sym n) h.ascending)))
 
-begun-is : (n side : ℕ) (q : Place) (o : Option Kind) → kind_of n ≡ o → option_and_then (λ k. then_some (head_ok (number_of k) side) (Within k nothing)) o ≡ Some q → (kind : Kind) × (number_of kind ≡ n) × (head_ok n side ≡ true) × (q ≡ Within kind nothing)
-begun-is n side q None e g = let z : ◌≡◌ {A = ℕ} 0 1 = cc in absurd (omega arith)
+begun-is : (n side : ℕ) (q : Place) (o : Option Kind) → kind_of n ≡ o → option_and_then (begun_as side) o ≡ Some q → (kind : Kind) × (number_of kind ≡ n) × (head_ok n side ≡ true) × (q ≡ Within kind nothing)
+begun-is n side q None e g = absurd (cc)
 begun-is n side q (Some kind) e g =
     let k = number_of-kind_of n kind e in
     let t = then_some-is (head_ok (number_of kind) side) (Within kind nothing) q g in

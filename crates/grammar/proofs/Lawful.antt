@@ -6,7 +6,7 @@ use Rattle.records.specs.Content.{Content, mark_of}
 use Rattle.records.specs.Encode.{encode, Fits}
 use Rattle.grammar.specs.File.{encodes, AllFit}
 use Rattle.grammar.specs.declared.place.Place.{Place}
-use Rattle.grammar.specs.declared.place.Place.TheVariants.{HandInDue, ModelDue, Within, States, Done}
+use Rattle.grammar.specs.declared.place.Place.TheVariants.{Done}
 use Rattle.grammar.specs.Place.{allowed, behind, fits, after, over}
 pub use Rattle.grammar.specs.Place.{Leads}
 

@@ -4,7 +4,7 @@ use Rattle.std.proofs.lemmas.Bool.{eqb-true}
 use Rattle.records.specs.declared.content.Branch.{Branch}
 use Rattle.records.specs.declared.content.Mark.{Mark}
 use Rattle.records.specs.declared.content.Mark.TheVariants.{Md, St, Ch, Hd, Ce, Fl, Pc, Pm, Rw, Wf, Zz}
-use Rattle.records.specs.Content.{Content, md, st, ch, hd, ce, fl, pc, pm, rw', wf, zz, mark_of, mark_number, same_mark}
+use Rattle.records.specs.Content.{Content, md, st, ch, hd, zz, mark_of, mark_number, same_mark}
 
 -- the mark at a place of the list of marks
 abbrev nth_mark : ℕ → Mark

@@ -1,6 +1,7 @@
 -- What a model file has next: a choice of the present state, or the next state, or the end.
-use Rattle.std.proofs.Common.{◌≡◌, ℕ, suc, ◌-◌, Bool, true, false, cond, ltb, leb, List, [], ◌∷◌, Some, sym, refl, ap, ◌∙◌, subst, arith}
-use Rattle.std.proofs.lemmas.Bool.{false≢true, lt-ltb, cond-true}
+use Rattle.std.proofs.Common.{◌≡◌, ℕ, suc, ◌-◌, Bool, true, false, leb, List, [], ◌∷◌, Some, sym, refl, ap, ◌∙◌, subst, arith}
+use Rattle.std.proofs.lemmas.Bool.Decides.{nat_tests}
+use Rattle.std.proofs.lemmas.Bool.{false≢true}
 use Rattle.std.specs.Bool.{then_some}
 use Rattle.records.specs.declared.content.Branch.{Branch}
 use Rattle.records.specs.declared.content.Mark.TheVariants.{St, Ch, Zz}
@@ -13,15 +14,15 @@ use Rattle.grammar.proofs.Marks.{form}
 
 -- the mark that is next
 pub wants_choice : (s k : ℕ) → wanted s (suc k) ≡ Ch
-wants_choice s k = cond-true (ltb 0 (suc k)) Ch (cond (ltb 0 s) St Zz) (lt-ltb 0 (suc k) (omega arith))
+wants_choice s k = grind (arith, nat_tests)
 
 pub wants_state : (s : ℕ) → wanted (suc s) 0 ≡ St
-wants_state s = cond-true (ltb 0 (suc s)) St Zz (lt-ltb 0 (suc s) (omega arith))
+wants_state s = grind (arith, nat_tests)
 
 -- a value that a test lets through
 pub then_some-is : {X : Type 0} (b : Bool) (x y : X) → then_some b x ≡ Some y → (b ≡ true) × (y ≡ x)
 then_some-is true x y e = (refl, cc)
-then_some-is false x y e = let z : ◌≡◌ {A = ℕ} 0 1 = cc in absurd (omega arith)
+then_some-is false x y e = absurd (cc)
 
 -- one choice more
 less_one : (k : ℕ) → suc k - 1 ≡ k

@@ -1,6 +1,6 @@
 -- The reading of a unit is true of the bytes, and nothing else is.
-use Rattle.std.proofs.Common.{◌≡◌, ℕ, zero, suc, ◌+◌, ◌-◌, ◌<◌, ◌≤◌, Bool, true, false, cond, ltb, List, [], ◌∷◌, ◌++◌, length, get_or, drop, Ok, Err, Result, sym, refl, ap, ◌∙◌, subst, inl, inr, append_assoc, add-zero, arith}
-use Rattle.std.proofs.lemmas.Bool.{le-ltb, ltb-true, ltb-false, cond_both, cond-true, cond-false, true≢false, true_from_ne_false, false_from_ne_true}
+use Rattle.std.proofs.Common.{◌≡◌, ℕ, zero, suc, ◌+◌, ◌-◌, ◌<◌, ◌≤◌, true, false, ltb, List, [], ◌∷◌, ◌++◌, length, get_or, drop, Ok, Err, Result, sym, refl, ap, ◌∙◌, subst, inl, inr, append_assoc, add-zero, arith}
+use Rattle.std.proofs.lemmas.Bool.{ltb-true, ltb-false, cond_both, cond-true, cond-false, true≢false, true_from_ne_false, false_from_ne_true}
 use Rattle.std.proofs.lemmas.List.{append-nil, length-append, drop-drop, drop_at, flat_map_more}
 use Rattle.records.specs.declared.content.Mark.{Mark}
 use Rattle.records.specs.declared.decoding.NoMark.{NoMark}
@@ -96,7 +96,7 @@ module _ (start : Place) (W : List Content → Type 0) (to : (rs : List Content)
     told_mark : (m : Result Mark NoMark) → m ≡ mark_at xs at → Told ds p at (at_mark p xs at m)
     told_mark (Err Cut) e = inl (refl, inl (cut_short xs at e))
     told_mark (Err Unknown) e =
-        inr (inl (refl, (unknown_long xs at e, λ k g w. let h = marked_mark xs at k g in let z : ◌≡◌ {A = ℕ} 0 1 = cc in omega arith)))
+        inr (inl (refl, (unknown_long xs at e, λ k g w. let h = marked_mark xs at k g in cc)))
     told_mark (Ok m) e =
         cond_both (allowed p m) _ _ (Told ds p at)
         (λ a. cond_both (ltb (length xs) (at + size m xs at)) _ _ (Told ds p at) (λ h. inl (refl, too_short m e a h))
@@ -167,7 +167,7 @@ module _ (start : Place) (W : List Content → Type 0) (to : (rs : List Content)
         let a = allows_only start W to from ds p m l h.2 in
         let n = ltb (length xs) (at + size m xs at) in
         let short : n ≡ true =
-            true_from_ne_false n (λ g. h.3 (decoded m xs at) (mark_decoded m xs at) (begins xs f at m (sym e) (ltb-false (length xs) (at + size m xs at) g))) in
+        true_from_ne_false n (λ g. h.3 (decoded m xs at) (mark_decoded m xs at) (begins xs f at m (sym e) (ltb-false (length xs) (at + size m xs at) g))) in
         ap (at_mark p xs at) e ∙ cond-true (allowed p m) _ _ a ∙ cond-true n _ _ short
 
     refuses_mark : BadMark W ds (drop at xs) → record_at p xs at ≡ refused 2 at

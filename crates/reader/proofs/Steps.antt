@@ -4,7 +4,7 @@ use Rattle.std.specs.Result.{MatchResult, IsErrAnd}
 use Rattle.std.proofs.lemmas.Bool.{lt-ltb, le-ltb, ltb-false, cond_both, cond-true, cond-false, and_parts, true≢false}
 use Rattle.std.proofs.lemmas.Result.{err_from_is_err_and}
 use Rattle.records.specs.declared.content.Mark.{Mark}
-use Rattle.records.specs.declared.content.Mark.TheVariants.{Md, St, Ch, Hd, Ce, Fl, Pc, Pm, Rw, Wf, Zz}
+use Rattle.records.specs.declared.content.Mark.TheVariants.{Md}
 use Rattle.records.specs.declared.decoding.NoMark.{NoMark}
 use Rattle.records.specs.declared.decoding.NoMark.TheVariants.{Cut, Unknown}
 use Rattle.records.specs.Content.{Content, mark_of}
@@ -109,11 +109,11 @@ step_ok p q w r e = by_mark (allowed p (mark_of r)) e
   where
     by_fields : (b : Bool) → (w && fits p r) ≡ b → Ok q ≡ cond b (Ok (after p r)) (Err BadField) → (fits p r ≡ true) × (q ≡ after p r)
     by_fields true h g = ((and_parts w (fits p r) h).1, cc)
-    by_fields false h g = let z : ◌≡◌ {A = ℕ} 0 1 = cc in absurd (omega arith)
+    by_fields false h g = absurd (cc)
 
     by_mark : (b : Bool) → Ok q ≡ cond b (cond (w && fits p r) (Ok (after p r)) (Err BadField)) (Err BadMark) → (fits p r ≡ true) × (q ≡ after p r)
     by_mark true g = by_fields (w && fits p r) refl g
-    by_mark false g = let z : ◌≡◌ {A = ℕ} 0 1 = cc in absurd (omega arith)
+    by_mark false g = absurd (cc)
 
 -- a step that was refused where the mark is allowed and the entries are whole
 step_refused : (p : Place) (w : Bool) (r : Content) (m : Misfit) → allowed p (mark_of r) ≡ true → w ≡ true → Err m ≡ step p w r → (m ≡ BadField) × (fits p r ≡ false)
@@ -121,7 +121,7 @@ step_refused p w r m a t e =
     by_fields (fits p r) refl (e ∙ cond-true (allowed p (mark_of r)) _ _ a ∙ ap (λ b. cond (b && fits p r) (Ok (after p r)) (Err BadField)) t)
   where
     by_fields : (b : Bool) → fits p r ≡ b → Err m ≡ cond b (Ok (after p r)) (Err BadField) → (m ≡ BadField) × (b ≡ false)
-    by_fields true h g = let z : ◌≡◌ {A = ℕ} 0 1 = cc in absurd (omega arith)
+    by_fields true h g = absurd (cc)
     by_fields false h g = (cc, refl)
 
 -- a record that stands there and is allowed there
@@ -138,7 +138,7 @@ module _ (p : Place) (xs : List ℕ) (at : ℕ) (m : Mark) (k : Ok m ≡ mark_at
 
   -- the fault of a record that does not fit
   pub record_refused : (item : Record) (next : ℕ) → Decodes xs at m (Some (item, next)) → (s : Result Place Misfit) → s ≡ step p (whole item) (content item) → (t : Result Place ReadFault) (Q : Misfit → ReadFault → Type 0) → ((e : Misfit) (f : ReadFault) → Q e f → f ≡ fault_of_misfit e at) → MatchResult s (λ q. t ≡ Ok q) (λ e. IsErrAnd t (Q e)) → (f : ReadFault) → t ≡ Err f → refused (number_of f) (place_of f) ≡ record_at p xs at
-  record_refused item next d (Ok q) e t Q w c f g = let z : ◌≡◌ {A = ℕ} 0 1 = cc in absurd (omega arith)
+  record_refused item next d (Ok q) e t Q w c f g = absurd (cc)
   record_refused item next d (Err n) e t Q w c f g =
       let r = content item in
       let marked : mark_of r ≡ m = ap mark_of d.1 ∙ mark_decoded m xs at in

@@ -1,5 +1,5 @@
 -- What is promised of readers and of whole files, from the one true reading.
-use Rattle.std.proofs.Common.{◌≡◌, ℕ, ◌<◌, ◌≤◌, List, length, get_or, Ok, Err, Result, ◌⊎◌, sym, refl, ap, ◌∙◌, subst, inl, inr, arith}
+use Rattle.std.proofs.Common.{◌≡◌, ℕ, ◌<◌, ◌≤◌, List, length, get_or, Ok, Err, Result, ◌⊎◌, sym, refl, ap, subst, inl, inr, arith}
 use Rattle.records.specs.Content.{Content}
 use Rattle.grammar.specs.declared.place.Place.TheVariants.{HandInDue, ModelDue}
 use Rattle.grammar.specs.File.{Reads}
@@ -9,12 +9,11 @@ use Rattle.reader.specs.declared.fault.ReadFault.{ReadFault}
 use Rattle.reader.specs.declared.fault.ReadFault.TheVariants as faults
 use Rattle.reader.specs.declared.format.Format.{Format}
 use Rattle.reader.specs.declared.format.Format.TheVariants.{HandIn, ModelFile}
-use Rattle.reader.specs.declared.reading.Reader.{Reader}
 use Rattle.reader.specs.Format.{IsFile, start_of}
 use Rattle.reader.specs.Faults.{number_of, place_of}
 use Rattle.reader.specs.Exact.{stopped, fault, Reading, read, True, Exactly}
 use Rattle.reader.specs.Reading.{reading}
-use Rattle.reader.specs.Answer.{rest_of, ReadsWhole, Sole}
+use Rattle.reader.specs.Answer.{ReadsWhole, Sole}
 use Rattle.reader.proofs.OneTrue.{exactly}
 
 -- a fault is known by its number and its place
@@ -56,14 +55,14 @@ module _ (W : List Content → Type 0) (xs : List ℕ) (v : Reading) (e : Exactl
   -- two answers that both say how the reading ends are one
   one_answer : (a c : Result (Unit {0}) ReadFault) → Alone xs v a → Alone xs v c → a ≡ c
   one_answer (Ok u) (Ok v) h k = refl
-  one_answer (Ok u) (Err g) h (inl k) = let p = h.2 in let q = k.1 in let z : ◌≡◌ {A = ℕ} 0 1 = cc in absurd (omega arith)
-  one_answer (Ok u) (Err g) h (inr k) = let p = h.2 in let q = k.1.1 in let z : h.1 ≡ place_of g = cc in absurd (omega (arith, h.3, k.2))
-  one_answer (Err f) (Ok v) (inl h) k = let p = h.1 in let q = k.2 in let z : ◌≡◌ {A = ℕ} 0 1 = cc in absurd (omega arith)
-  one_answer (Err f) (Ok v) (inr h) k = let p = h.1.1 in let q = k.2 in let z : k.1 ≡ place_of f = cc in absurd (omega (arith, k.3, h.2))
-  one_answer (Err f) (Err g) (inl h) (inl k) = let p = h.1 in let q = k.1 in ap Err (same_fault f g (cc) (cc))
-  one_answer (Err f) (Err g) (inl h) (inr k) = let p = h.1 in let q = k.1.1 in let z : ◌≡◌ {A = ℕ} 0 1 = cc in absurd (omega arith)
-  one_answer (Err f) (Err g) (inr h) (inl k) = let p = h.1.1 in let q = k.1 in let z : ◌≡◌ {A = ℕ} 0 1 = cc in absurd (omega arith)
-  one_answer (Err f) (Err g) (inr h) (inr k) = let p = h.1.1 in let q = k.1.1 in ap Err (same_fault f g (h.0 ∙ sym k.0) (cc))
+  one_answer (Ok u) (Err g) h (inl k) = absurd (cc)
+  one_answer (Ok u) (Err g) h (inr k) = let z : h.1 ≡ place_of g = cc in absurd (omega arith)
+  one_answer (Err f) (Ok v) (inl h) k = absurd (cc)
+  one_answer (Err f) (Ok v) (inr h) k = let z : k.1 ≡ place_of f = cc in absurd (omega arith)
+  one_answer (Err f) (Err g) (inl h) (inl k) = ap Err (same_fault f g (cc) (cc))
+  one_answer (Err f) (Err g) (inl h) (inr k) = absurd (cc)
+  one_answer (Err f) (Err g) (inr h) (inl k) = absurd (cc)
+  one_answer (Err f) (Err g) (inr h) (inr k) = ap Err (same_fault f g (cc) (cc))
 
   pub sole : (a : Result (Unit {0}) ReadFault) → Alone xs v a → Sole W xs a
   sole a h = record { right = alone_whole a h; only = λ other k. one_answer other a (whole_alone other k) h }

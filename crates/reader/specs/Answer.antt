@@ -1,5 +1,5 @@
 -- What the reader's answers say.
-use Rattle.std.specs.Prelude.{◌≡◌, ℕ, ◌<◌, ◌≤◌, true, ◌⊎◌, List, [], ◌∷◌, length, Some, None, Ok, Err, Option, Result}
+use Rattle.std.specs.Prelude.{◌≡◌, ℕ, true, List, [], ◌∷◌, length, Some, None, Ok, Err, Option, Result}
 use Rattle.records.specs.declared.content.Record.{Record}
 use Rattle.records.specs.Content.{Content}
 use Rattle.records.specs.Held.{content, whole}
