@@ -87,6 +87,12 @@ read_over p xs at e = over_turns (length xs - at) p xs at e
 pub read_got : (p : Place) (xs : List ℕ) (at : ℕ) (r : Content) (next : ℕ) → over p ≡ false → got r next ≡ record_at p xs at → reading p xs at ≡ prefixed (r ∷ []) (reading (after p r) xs next)
 read_got p xs at r next e g = read_step p xs at e ∙ ap (next_of p (onward xs)) (sym g)
 
+-- the same of readers, before and behind the record
+pub next_got : (r s : Reader) (item : Record) → over r.place ≡ false → got (content item) s.at ≡ record_at r.place r.bytes.now r.at → s.place ≡ after r.place (content item) → s.bytes ≡ r.bytes → rest_of r ≡ prefixed (content item ∷ []) (rest_of s)
+next_got r s item o g p b =
+    read_got r.place r.bytes.now r.at (content item) s.at o g
+    ∙ ap (prefixed (content item ∷ [])) (ap (λ q. reading q r.bytes.now s.at) (sym p) ∙ ap (λ x. reading s.place x.now s.at) (sym b))
+
 -- the fault, where there is none
 pub read_refused : (p : Place) (xs : List ℕ) (at n o : ℕ) → over p ≡ false → refused n o ≡ record_at p xs at → reading p xs at ≡ read [] (fault n o)
 read_refused p xs at n o e g = read_step p xs at e ∙ ap (next_of p (onward xs)) (sym g)

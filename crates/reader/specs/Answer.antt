@@ -1,5 +1,5 @@
 -- What the reader's answers say.
-use Rattle.std.specs.Prelude.{◌≡◌, ℕ, true, List, [], ◌∷◌, length, Some, None, Ok, Err, Option, Result}
+use Rattle.std.specs.Prelude.{◌≡◌, ℕ, ◌<◌, ◌≤◌, true, ◌⊎◌, List, [], ◌∷◌, length, Some, None, Ok, Err, Option, Result}
 use Rattle.records.specs.declared.content.Record.{Record}
 use Rattle.records.specs.Content.{Content}
 use Rattle.records.specs.Held.{content, whole}
@@ -42,6 +42,13 @@ pub record Sole (W : List Content → Type 0) (xs : List ℕ) (a : Result (Unit 
   pub only : (other : Result (Unit {0}) ReadFault) → ReadsWhole W xs other → other ≡ a
 
 -- The rest is for the functions that these calls are made of.
+
+-- the unit of a new reader is all that there is; else its fault, or a byte that follows
+abbrev pub Alone : Reader → Result (Unit {0}) ReadFault → Type 0
+Alone r (Ok u) = (rs : List Content) × (behind : ℕ) × (rest_of r ≡ read rs (stopped behind)) × (length r.bytes.now ≤ behind)
+Alone r (Err f) =
+    ((rs : List Content) × (rest_of r ≡ read rs (fault (number_of f) (place_of f))))
+    ⊎ ((number_of f ≡ 4) × ((rs : List Content) × (rest_of r ≡ read rs (stopped (place_of f)))) × (place_of f < length r.bytes.now))
 
 -- the record that stands at a reader, and the reader behind it
 abbrev pub outcome : Result (Record × Reader) ReadFault → Outcome

@@ -5,7 +5,7 @@ ghost use Rattle.grammar.specs.ModelFile.{ModelFile};
 ghost use Rattle.reader.specs.Exact.{Exactly};
 ghost use Rattle.reader.specs.Format.{IsFile};
 ghost use Rattle.reader.specs.Reading.{record_at};
-ghost use Rattle.reader.specs.Answer.{rest_of, Next, NextRecord, ReadOn, Sole, outcome, Behind};
+ghost use Rattle.reader.specs.Answer.{rest_of, Next, NextRecord, ReadOn, Sole, Alone, outcome, Behind};
 
 use crate::fault::ReadFault;
 use crate::format::Format;
@@ -79,7 +79,8 @@ impl<'a> Reader<'a> {
         ))
     }
 
-    // The next record with its offset; None behind ZZ.
+    // The next record with its offset; None behind ZZ. No Iterator: a fault is met again at each call, so its items would not end.
+    #[tactic(auto, using(crate::proofs::Steps::next_got))]
     pub fn next(&mut self) -> Result<Option<(usize, Record<'a>)>, ReadFault>
         ensures { Next self.old self.new result }
     {
@@ -106,17 +107,24 @@ impl<'a> Reader<'a> {
         while let Some(_) = self.next()? {}
         Ok(self.at)
     }
+
+    // Reads on to the end of the unit, which is to be the end of the bytes.
+    fn finish_all(self) -> Result<(), ReadFault>
+        ensures { Alone self.entry result }
+    {
+        let behind = self.finish()?;
+        if behind < self.bytes.len() {
+            return Err(ReadFault::Surplus(behind));
+        }
+        Ok(())
+    }
 }
 
 // Whether the bytes are a file of that format, and nothing more.
 fn read_whole(format: Format, bytes: &[u8]) -> Result<(), ReadFault>
     ensures { Sole (IsFile format) bytes.now result }
 {
-    let behind = Reader::of(format, bytes, 0).finish()?;
-    if behind < bytes.len() {
-        return Err(ReadFault::Surplus(behind));
-    }
-    Ok(())
+    Reader::of(format, bytes, 0).finish_all()
 }
 
 // Whether the bytes are a hand-in, and nothing more.
