@@ -1,10 +1,14 @@
 -- Every place can be completed, and every mark that it allows has a record that fits.
-use Rattle.std.proofs.Common.{◌≡◌, ℕ, zero, suc, ◌+◌, true, ◌&&◌, leb, List, [], ◌∷◌, sym, refl, ◌∙◌, arith}
+use Rattle.std.proofs.Common.{◌≡◌, ℕ, zero, suc, ◌+◌, true, ◌&&◌, leb, is_some, List, [], ◌∷◌, sym, refl, ◌∙◌, arith}
 use Rattle.std.proofs.lemmas.Bool.Decides.{nat_tests}
-use Rattle.std.proofs.lemmas.Bool.{false≢true}
+use Rattle.std.proofs.lemmas.Bool.{false≢true, and_parts}
+use Rattle.std.specs.Bool.{then_some}
+use Rattle.std.specs.Option.{option_and_then}
 use Rattle.records.specs.declared.content.Mark.{Mark}
-use Rattle.records.specs.declared.content.Mark.TheVariants.{Md, St, Ch, Hd, Ce, Fl, Pc, Pm, Rw, Wf, Zz}
+use Rattle.records.specs.declared.content.Mark.TheVariants.{Md, Hd, Ce, Fl, Pc, Pm, Rw, Wf, Zz}
 use Rattle.records.specs.Content.{Content, md, st, ch, hd, ce, fl, pc, pm, rw', wf, zz, mark_of}
+use Rattle.grammar.specs.declared.kind.Kind.{Kind}
+use Rattle.grammar.specs.Kind.{number_of}
 use Rattle.grammar.specs.declared.order.Key.{Key}
 use Rattle.grammar.specs.declared.place.Place.{Place}
 use Rattle.grammar.specs.declared.place.Place.TheVariants.{HandInDue, ModelDue, Within, States, Done}
@@ -28,22 +32,22 @@ completes (States n states choices) = states_complete n states choices
 completes Done = ([], refl)
 
 -- within a hand-in: a record of the state after the last one
-module _ (kind : ℕ) (last : Key) where
-  next_state : (b : ℕ) → (leb 1 b && leb last.block b) ≡ true → precedes last (record { block = b; state = last.state + 1; high = 0; choice = 0 }) ≡ true
-  next_state b e = grind (arith, nat_tests)
+module _ (kind : Kind) (last : Key) where
+  abbrev next_key : ℕ → Key
+  next_key b = record { block = b; state = last.state + 1; high = 0; choice = 0 }
+
+  next_state : (b : ℕ) → (leb 1 b && leb last.block b) ≡ true → is_some (option_and_then (λ k. then_some (precedes last k && true) (Within kind k)) (then_some (leb 1 b) (next_key b))) ≡ true
+  next_state b e = let p : precedes last (next_key b) ≡ true = grind (arith, nat_tests) in rw ((and_parts (leb 1 b) _ e).0, p) refl
 
   within_record : (m : Mark) → allowed (Within kind last) m ≡ true → (r : Content) × (mark_of r ≡ m) × (fits (Within kind last) r ≡ true)
-  within_record Md a = absurd (false≢true a)
-  within_record St a = absurd (false≢true a)
-  within_record Ch a = absurd (false≢true a)
-  within_record Hd a = absurd (false≢true a)
-  within_record Ce a = (ce (last.state + 1) 0, refl, next_state (block kind Ce) a)
-  within_record Fl a = (fl (last.state + 1) 0, refl, next_state (block kind Fl) a)
-  within_record Pc a = (pc (last.state + 1) 0, refl, next_state (block kind Pc) a)
-  within_record Pm a = (pm (last.state + 1) 0 0, refl, next_state (block kind Pm) a)
-  within_record Rw a = (rw' (last.state + 1) 0, refl, next_state (block kind Rw) a)
-  within_record Wf a = (wf (last.state + 1) 0 0 0 [], refl, next_state (block kind Wf) a)
+  within_record Ce a = (ce (last.state + 1) 0, refl, next_state (block (number_of kind) Ce) a)
+  within_record Fl a = (fl (last.state + 1) 0, refl, next_state (block (number_of kind) Fl) a)
+  within_record Pc a = (pc (last.state + 1) 0, refl, next_state (block (number_of kind) Pc) a)
+  within_record Pm a = (pm (last.state + 1) 0 0, refl, next_state (block (number_of kind) Pm) a)
+  within_record Rw a = (rw' (last.state + 1) 0, refl, next_state (block (number_of kind) Rw) a)
+  within_record Wf a = (wf (last.state + 1) 0 0 0 [], refl, next_state (block (number_of kind) Wf) a)
   within_record Zz a = (zz, refl, refl)
+  within_record m a = absurd (false≢true a)
 
 -- in a model file: the mark that is next
 states_record : (n states choices : ℕ) (m : Mark) → m ≡ wanted states choices → (r : Content) × (mark_of r ≡ m) × (fits (States n states choices) r ≡ true)

@@ -4,7 +4,7 @@ use Rattle.std.proofs.lemmas.Bool.{true≢false, false≢true}
 use Rattle.records.specs.declared.content.Mark.{Mark}
 use Rattle.records.specs.Content.{Content, mark_of}
 use Rattle.grammar.specs.declared.place.Place.{Place}
-use Rattle.grammar.specs.declared.place.Place.TheVariants.{HandInDue, ModelDue, Within, States, Done}
+use Rattle.grammar.specs.declared.place.Place.TheVariants.{Done}
 use Rattle.grammar.specs.Place.{allowed, fits, after, over}
 use Rattle.grammar.specs.File.{GoesOn, Allowed}
 use Rattle.grammar.proofs.Lawful.{Lawful, Leads, lawful-append, lawful_rest, front_leads}
@@ -16,11 +16,8 @@ follows_unless_over p [] e h = absurd (true≢false (sym h ∙ e))
 follows_unless_over p (r ∷ rs) e h = (r, h.0, h.1)
 
 pub not_over : (p : Place) (m : Mark) → allowed p m ≡ true → over p ≡ false
-not_over HandInDue m a = refl
-not_over ModelDue m a = refl
-not_over (Within kind last) m a = refl
-not_over (States n states choices) m a = refl
 not_over Done m a = absurd (false≢true a)
+not_over p m a = refl
 
 -- where the files W are what is lawful from `start` on
 module _ (start : Place) (W : List Content → Type 0) (to : (rs : List Content) → Lawful start rs → W rs) (from : (rs : List Content) → W rs → Lawful start rs) where

@@ -1,18 +1,31 @@
 -- Records that follow one another, as the places that they lead through allow.
-use Rattle.std.proofs.Common.{◌≡◌, true, List, [], ◌∷◌, ◌++◌, sym, refl, ap, ◌∙◌, subst, append_assoc}
+use Rattle.std.proofs.Common.{◌≡◌, true, Some, None, Option, is_some, unwrap_or, List, [], ◌∷◌, ◌++◌, sym, refl, ap, ◌∙◌, subst}
 use Rattle.std.proofs.lemmas.Bool.{false≢true}
+use Rattle.std.proofs.lemmas.Grind.{flat_map-append}
 use Rattle.records.specs.Content.{Content, mark_of}
 use Rattle.records.specs.Encode.{encode, Fits}
 use Rattle.grammar.specs.File.{encodes, AllFit}
 use Rattle.grammar.specs.declared.place.Place.{Place}
-use Rattle.grammar.specs.declared.place.Place.TheVariants.{HandInDue, ModelDue, Within, States, Done}
-use Rattle.grammar.specs.Place.{allowed, fits, after, over}
+use Rattle.grammar.specs.declared.place.Place.TheVariants.{Done}
+use Rattle.grammar.specs.Place.{allowed, behind, fits, after, over}
 pub use Rattle.grammar.specs.Place.{Leads}
 
 -- from the place p to the end
 abbrev pub Lawful : Place → List Content → Type 0
 Lawful p [] = over p ≡ true
 Lawful p (r ∷ rs) = (allowed p (mark_of r) ≡ true) × (fits p r ≡ true) × Lawful (after p r) rs
+
+-- one record first
+pub lawful_more : (p q : Place) (r : Content) (rs : List Content) → allowed p (mark_of r) ≡ true → behind p r ≡ Some q → Lawful q rs → Lawful p (r ∷ rs)
+lawful_more p q r rs a e h = (a, ap is_some e, subst (λ x. Lawful x rs) (sym (ap (λ o. unwrap_or o p) e)) h)
+
+-- the place behind a record that fits
+some_place : (o : Option Place) (p : Place) → is_some o ≡ true → o ≡ Some (unwrap_or o p)
+some_place (Some q) p e = refl
+some_place None p e = absurd (false≢true e)
+
+pub behind-fits : (p : Place) (r : Content) → fits p r ≡ true → behind p r ≡ Some (after p r)
+behind-fits p r f = some_place (behind p r) p f
 
 -- one record more
 pub leads_push : (rs : List Content) (p q : Place) (r : Content) → Leads p rs q → allowed q (mark_of r) ≡ true → fits q r ≡ true → Leads p (rs ++ r ∷ []) (after q r)
@@ -34,11 +47,8 @@ front_leads (d ∷ ds) rs p h = let f = front_leads ds rs (after p d) h.2 in (f.
 
 -- the end is the one place that is over
 over_done : (p : Place) → over p ≡ true → p ≡ Done
-over_done HandInDue e = absurd (false≢true e)
-over_done ModelDue e = absurd (false≢true e)
-over_done (Within kind last) e = absurd (false≢true e)
-over_done (States n states choices) e = absurd (false≢true e)
 over_done Done e = refl
+over_done p e = absurd (false≢true e)
 
 pub lawful_leads : (rs : List Content) (p : Place) → Lawful p rs → Leads p rs Done
 lawful_leads [] p h = over_done p h
@@ -60,5 +70,4 @@ all_fit_push (s ∷ rs) r a f = (a.0, all_fit_push rs r a.1 f)
 
 -- the bytes of two lists of records, one after the other
 pub encodes-append : (ds rs : List Content) → encodes (ds ++ rs) ≡ encodes ds ++ encodes rs
-encodes-append [] rs = refl
-encodes-append (d ∷ ds) rs = ap (λ ys. encode d ++ ys) (encodes-append ds rs) ∙ sym (append_assoc (encode d) (encodes ds) (encodes rs))
+encodes-append ds rs = flat_map-append encode ds rs

@@ -4,7 +4,7 @@ use Rattle.std.proofs.lemmas.Bool.{eqb-true}
 use Rattle.records.specs.declared.content.Branch.{Branch}
 use Rattle.records.specs.declared.content.Mark.{Mark}
 use Rattle.records.specs.declared.content.Mark.TheVariants.{Md, St, Ch, Hd, Ce, Fl, Pc, Pm, Rw, Wf, Zz}
-use Rattle.records.specs.Content.{Content, md, st, ch, hd, ce, fl, pc, pm, rw', wf, zz, mark_of, mark_number, same_mark}
+use Rattle.records.specs.Content.{Content, md, st, ch, hd, zz, mark_of, mark_number, same_mark}
 
 -- the mark at a place of the list of marks
 abbrev nth_mark : ℕ → Mark
@@ -22,16 +22,7 @@ nth_mark (suc (suc (suc (suc (suc (suc (suc (suc (suc (suc n)))))))))) = Zz
 
 nth_number : (m : Mark) → nth_mark (mark_number m) ≡ m
 nth_number Md = refl
-nth_number St = refl
-nth_number Ch = refl
-nth_number Hd = refl
-nth_number Ce = refl
-nth_number Fl = refl
-nth_number Pc = refl
-nth_number Pm = refl
-nth_number Rw = refl
-nth_number Wf = refl
-nth_number Zz = refl
+nth_number m = refl
 
 pub same_mark-true : (a b : Mark) → same_mark a b ≡ true → a ≡ b
 same_mark-true a b e = sym (nth_number a) ∙ ap nth_mark (eqb-true (mark_number a) (mark_number b) e) ∙ nth_number b
@@ -42,26 +33,16 @@ Form Md r = (n : ℕ) × (d : ℕ) × (r ≡ md n d)
 Form St r = (g : ℕ) × (k : ℕ) × (r ≡ st g k)
 Form Ch r = (es : List Branch) × (r ≡ ch es)
 Form Hd r = (k : ℕ) × (s : ℕ) × (r ≡ hd k s)
-Form Ce r = Unit {0}
-Form Fl r = Unit {0}
-Form Pc r = Unit {0}
-Form Pm r = Unit {0}
-Form Rw r = Unit {0}
-Form Wf r = Unit {0}
 Form Zz r = r ≡ zz
+Form m r = Unit {0}
 
 own_form : (r : Content) → Form (mark_of r) r
 own_form (md n d) = (n, d, refl)
 own_form (st g k) = (g, k, refl)
 own_form (ch es) = (es, refl)
 own_form (hd k s) = (k, s, refl)
-own_form (ce s c) = tt
-own_form (fl s c) = tt
-own_form (pc s c) = tt
-own_form (pm s c m) = tt
-own_form (rw' s r) = tt
-own_form (wf s h c m es) = tt
 own_form zz = refl
+own_form r = tt
 
 pub form : (r : Content) (m : Mark) → same_mark (mark_of r) m ≡ true → Form m r
 form r m e = subst (λ x. Form x r) (same_mark-true (mark_of r) m e) (own_form r)

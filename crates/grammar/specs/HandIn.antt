@@ -2,8 +2,8 @@
 use Rattle.std.specs.Prelude.{◌≡◌, ℕ, ◌≤◌, Bool, true, cond, ◌&&◌, ◌||◌, List, [], ◌∷◌, ◌++◌, ◌==◌, nat_le, nat_lt}
 use Rattle.records.specs.declared.content.Portion.{Portion}
 use Rattle.records.specs.declared.content.Mark.{Mark}
-use Rattle.records.specs.declared.content.Mark.TheVariants.{Md, St, Ch, Hd, Ce, Fl, Pc, Pm, Rw, Wf, Zz}
-use Rattle.records.specs.Content.{Content, md, st, ch, hd, ce, fl, pc, pm, rw', wf, zz, mark_of}
+use Rattle.records.specs.declared.content.Mark.TheVariants.{Ce, Fl, Pc, Pm, Rw, Wf}
+use Rattle.records.specs.Content.{Content, hd, ce, fl, pc, pm, rw', wf, zz, mark_of}
 use Rattle.grammar.specs.declared.order.Key.{Key}
 
 -- Kinds 1 to 5 there are; only kinds 1 and 2 may be for the high side, 1.
@@ -12,31 +12,27 @@ head_ok kind side = nat_le 1 kind && (nat_le kind 5 && nat_le side (cond (nat_le
 
 -- A kind's records stand in one block or in two: the block of a mark, 0 where the kind has no such record.
 abbrev pub block : ℕ → Mark → ℕ
-block kind Md = 0
-block kind St = 0
-block kind Ch = 0
-block kind Hd = 0
 block kind Ce = cond (kind == 1) 1 0
 block kind Fl = cond (kind == 2) 1 0
 block kind Pc = cond (kind == 3) 1 0
 block kind Pm = cond (kind == 3) 2 0
 block kind Rw = cond (kind == 4) 1 0
 block kind Wf = cond (kind == 4) 2 0
-block kind Zz = 0
+block kind m = 0
+
+-- the first record of a body comes after nothing
+abbrev pub nothing : Key
+nothing = record { block = 0; state = 0; high = 0; choice = 0 }
 
 -- What a record is ordered by: its block, then its state, high state and choice, 0 for what it does not have.
 abbrev pub key : ℕ → Content → Key
-key kind (md n d) = record { block = 0; state = 0; high = 0; choice = 0 }
-key kind (st g k) = record { block = 0; state = 0; high = 0; choice = 0 }
-key kind (ch es) = record { block = 0; state = 0; high = 0; choice = 0 }
-key kind (hd k s) = record { block = 0; state = 0; high = 0; choice = 0 }
 key kind (ce s c) = record { block = block kind Ce; state = s; high = 0; choice = 0 }
 key kind (fl s c) = record { block = block kind Fl; state = s; high = 0; choice = 0 }
 key kind (pc s c) = record { block = block kind Pc; state = s; high = 0; choice = 0 }
 key kind (pm s c m) = record { block = block kind Pm; state = s; high = 0; choice = c }
 key kind (rw' s r) = record { block = block kind Rw; state = s; high = 0; choice = 0 }
 key kind (wf s h c m es) = record { block = block kind Wf; state = s; high = h; choice = c }
-key kind zz = record { block = 0; state = 0; high = 0; choice = 0 }
+key kind r = nothing
 
 -- The first number that differs decides.
 abbrev pub precedes : Key → Key → Bool
@@ -58,28 +54,17 @@ abbrev pub portions_ok : List Portion → Bool
 portions_ok [] = true
 portions_ok (p ∷ ps) = nat_lt 0 p.amount && portions_after p ps
 
--- A claim is at most 1,048,576, which stands for 1.
+-- The fields of a record of a body. A claim is at most 1,048,576, which stands for 1.
 abbrev pub fields_ok : Content → Bool
-fields_ok (md n d) = true
-fields_ok (st g k) = true
-fields_ok (ch es) = true
-fields_ok (hd k s) = head_ok k s
 fields_ok (ce s c) = nat_le c 1048576
 fields_ok (fl s c) = nat_le c 1048576
-fields_ok (pc s c) = true
-fields_ok (pm s c m) = true
-fields_ok (rw' s r) = true
 fields_ok (wf s h c m es) = portions_ok es
-fields_ok zz = true
+fields_ok r = true
 
 -- Each record is one of the kind's, with its fields in range, and comes after the one before it.
 abbrev pub Body : ℕ → Key → List Content → Type 0
 Body kind before [] = Unit {0}
 Body kind before (r ∷ rs) = (1 ≤ block kind (mark_of r)) × (fields_ok r ≡ true) × (precedes before (key kind r) ≡ true) × Body kind (key kind r) rs
-
--- the first record of a body comes after nothing
-abbrev pub nothing : Key
-nothing = record { block = 0; state = 0; high = 0; choice = 0 }
 
 pub record HandIn (rs : List Content) : Type 0 where
   pub kind : ℕ

@@ -1,4 +1,5 @@
 pub mod HandIn
+pub mod Kind
 pub mod ModelFile
 pub mod File
 pub mod Place

@@ -1,12 +1,17 @@
--- How far a reading has come, and what may follow there. Laws in Exact.antt say what this comes to.
-use Rattle.std.specs.Prelude.{◌≡◌, ℕ, ◌-◌, Bool, true, false, cond, ◌&&◌, ◌||◌, List, [], ◌∷◌, nat_le, nat_lt}
+-- How far a reading has come, and what may follow there. Laws in the reader's Exact.antt say what this comes to.
+use Rattle.std.specs.Prelude.{◌≡◌, ℕ, ◌-◌, Bool, true, false, cond, ◌&&◌, ◌||◌, List, [], ◌∷◌, None, Some, Option, is_some, nat_le, nat_lt, unwrap_or}
+use Rattle.std.specs.Bool.{then_some}
+use Rattle.std.specs.Option.{option_and_then}
 use Rattle.records.specs.declared.content.Mark.{Mark}
 use Rattle.records.specs.declared.content.Mark.TheVariants.{Md, St, Ch, Hd, Zz}
-use Rattle.records.specs.Content.{Content, md, st, ch, hd, ce, fl, pc, pm, rw', wf, zz, mark_of, same_mark}
-use Rattle.grammar.specs.HandIn.{block, key, precedes, fields_ok, nothing}
-use Rattle.grammar.specs.ModelFile.{branches_ok}
+use Rattle.records.specs.Content.{Content, md, st, ch, hd, zz, mark_of, same_mark}
+use Rattle.grammar.specs.declared.kind.Kind.{Kind}
+use Rattle.grammar.specs.declared.order.Key.{Key}
 use Rattle.grammar.specs.declared.place.Place.{Place}
 use Rattle.grammar.specs.declared.place.Place.TheVariants.{HandInDue, ModelDue, Within, States, Done}
+use Rattle.grammar.specs.HandIn.{block, precedes, head_ok, fields_ok, nothing}
+use Rattle.grammar.specs.Kind.{number_of, kind_of, key_of}
+use Rattle.grammar.specs.ModelFile.{branches_ok}
 
 -- the one mark that a model file has next
 abbrev pub wanted : ℕ → ℕ → Mark
@@ -15,83 +20,38 @@ wanted states choices = cond (nat_lt 0 choices) Ch (cond (nat_lt 0 states) St Zz
 abbrev pub allowed : Place → Mark → Bool
 allowed HandInDue m = same_mark m Hd
 allowed ModelDue m = same_mark m Md
-allowed (Within kind last) m = same_mark m Zz || (nat_le 1 (block kind m) && nat_le last.block (block kind m))
+allowed (Within kind last) m =
+    same_mark m Zz || (nat_le 1 (block (number_of kind) m) && nat_le last.block (block (number_of kind) m))
 allowed (States n states choices) m = same_mark m (wanted states choices)
 allowed Done m = false
 
--- what the place remembers, 0 where it does not
-abbrev pub states_in : Place → ℕ
-states_in HandInDue = 0
-states_in ModelDue = 0
-states_in (Within kind last) = 0
-states_in (States n states choices) = n
-states_in Done = 0
+-- behind the head of a hand-in, and behind a record of its body
+abbrev pub begun : ℕ → ℕ → Option Place
+begun k side = option_and_then (λ kind. then_some (head_ok (number_of kind) side) (Within kind nothing)) (kind_of k)
 
-abbrev pub states_left : Place → ℕ
-states_left HandInDue = 0
-states_left ModelDue = 0
-states_left (Within kind last) = 0
-states_left (States n states choices) = states
-states_left Done = 0
+abbrev pub ascended : Kind → Key → Content → Option Place
+ascended kind last r = option_and_then (λ k. then_some (precedes last k && fields_ok r) (Within kind k)) (key_of kind r)
 
-abbrev pub choices_left : Place → ℕ
-choices_left HandInDue = 0
-choices_left ModelDue = 0
-choices_left (Within kind last) = 0
-choices_left (States n states choices) = choices
-choices_left Done = 0
-
-abbrev pub kind_of : Place → ℕ
-kind_of HandInDue = 0
-kind_of ModelDue = 0
-kind_of (Within kind last) = kind
-kind_of (States n states choices) = 0
-kind_of Done = 0
-
--- whether the fields are in range
-abbrev pub in_range : Place → Content → Bool
-in_range p (md n d) = true
-in_range p (st g k) = nat_le g 1
-in_range p (ch es) = branches_ok (states_in p) 0 es
-in_range p (hd k s) = fields_ok (hd k s)
-in_range p (ce s c) = fields_ok (ce s c)
-in_range p (fl s c) = fields_ok (fl s c)
-in_range p (pc s c) = fields_ok (pc s c)
-in_range p (pm s c m) = fields_ok (pm s c m)
-in_range p (rw' s r) = fields_ok (rw' s r)
-in_range p (wf s h c m es) = fields_ok (wf s h c m es)
-in_range p zz = true
-
--- whether the order ascends
-abbrev pub ascends : Place → Content → Bool
-ascends HandInDue r = true
-ascends ModelDue r = true
-ascends (Within kind last) r = same_mark (mark_of r) Zz || precedes last (key kind r)
-ascends (States n states choices) r = true
-ascends Done r = true
+-- The place behind a record that may stand there by its mark: none where a field is out of its range, or the order does not ascend.
+abbrev pub behind : Place → Content → Option Place
+behind HandInDue (hd k side) = begun k side
+behind ModelDue (md n d) = Some (States n n 0)
+behind (Within kind last) zz = Some Done
+behind (Within kind last) r = ascended kind last r
+behind (States n states choices) (st g k) = then_some (nat_le g 1) (States n (states - 1) k)
+behind (States n states choices) (ch es) = then_some (branches_ok n 0 es) (States n states (choices - 1))
+behind (States n states choices) zz = Some Done
+behind p r = None
 
 abbrev pub fits : Place → Content → Bool
-fits p r = in_range p r && ascends p r
+fits p r = is_some (behind p r)
 
 abbrev pub after : Place → Content → Place
-after p (md n d) = States n n 0
-after p (st g k) = States (states_in p) (states_left p - 1) k
-after p (ch es) = States (states_in p) (states_left p) (choices_left p - 1)
-after p (hd k s) = Within k nothing
-after p (ce s c) = Within (kind_of p) (key (kind_of p) (ce s c))
-after p (fl s c) = Within (kind_of p) (key (kind_of p) (fl s c))
-after p (pc s c) = Within (kind_of p) (key (kind_of p) (pc s c))
-after p (pm s c m) = Within (kind_of p) (key (kind_of p) (pm s c m))
-after p (rw' s r) = Within (kind_of p) (key (kind_of p) (rw' s r))
-after p (wf s h c m es) = Within (kind_of p) (key (kind_of p) (wf s h c m es))
-after p zz = Done
+after p r = unwrap_or (behind p r) p
 
 abbrev pub over : Place → Bool
-over HandInDue = false
-over ModelDue = false
-over (Within kind last) = false
-over (States n states choices) = false
 over Done = true
+over p = false
 
 -- the records lead from the place p to the place q: each may follow where it stands
 abbrev pub Leads : Place → List Content → Place → Type 0

@@ -1,9 +1,11 @@
 // How far a file has come.
 ghost use Rattle.std.specs.Prelude.{◌≡◌};
 ghost use Rattle.records.specs.Held.{content};
-ghost use Rattle.grammar.specs.Place.{allowed, wanted, after, over, states_in, kind_of};
+ghost use Rattle.grammar.specs.Place.{allowed, wanted, begun, ascended, behind, over};
 
-use crate::order::{Key, block_of};
+use crate::kind::Kind;
+use crate::order::Key;
+use crate::ranges::{branches_ok, fields_ok};
 use records::{Mark, Record};
 
 #[derive(Clone, Copy)]
@@ -13,7 +15,7 @@ pub enum Place {
     // Nothing is there yet; a model file is due.
     ModelDue,
     // In a hand-in of that kind, behind a record of that key.
-    Within { kind: u8, last: Key },
+    Within { kind: Kind, last: Key },
     // In a model file of n states; so many states are to come, and so many choices of the present one.
     States { n: u16, states: u16, choices: u16 },
     // Behind ZZ.
@@ -33,6 +35,25 @@ fn wanted_mark(states: u16, choices: u16) -> Mark
     }
 }
 
+// The place behind the head of a hand-in.
+fn begun(number: u8, side: u8) -> Option<Place>
+    ensures { result ≡ begun number side }
+{
+    let kind = Kind::try_from(number).ok()?;
+    kind.may_be_for(side).then_some(Place::Within {
+        kind,
+        last: Key::default(),
+    })
+}
+
+// The place behind a record of a hand-in's body.
+fn ascended(kind: Kind, last: Key, item: Record<'_>) -> Option<Place>
+    ensures { result ≡ ascended kind last (content item.entry) }
+{
+    let key = Key::of(kind, item)?;
+    (last < key && fields_ok(item)).then_some(Place::Within { kind, last: key })
+}
+
 impl Place {
     // Whether a record of that mark is allowed here.
     pub fn allows(self, mark: Mark) -> bool
@@ -41,10 +62,8 @@ impl Place {
         match self {
             Place::HandInDue => mark.is(Mark::Hd),
             Place::ModelDue => mark.is(Mark::Md),
-            Place::Within { kind, last } => {
-                let block = block_of(kind, mark);
-                mark.is(Mark::Zz) || (block >= 1 && last.block() <= block)
-            }
+            Place::Within { kind, last } => mark.is(Mark::Zz)
+                || kind.block(mark).is_some_and(|block| last.block <= block),
             Place::States {
                 states,
                 choices,
@@ -58,68 +77,38 @@ impl Place {
     pub fn is_over(self) -> bool
         ensures { result ≡ over self }
     {
-        match self {
-            Place::Done => true,
-            _ => false,
-        }
+        matches!(self, Place::Done)
     }
 
-    // How many states the model file has; 0 elsewhere.
-    pub(crate) fn states_in(self) -> u16
-        ensures { result ≡ states_in self }
+    // The place behind a record of an allowed mark; None where a field is out of its range, or the order does not ascend.
+    pub(crate) fn behind(self, item: Record<'_>) -> Option<Place>
+        ensures { result ≡ behind self (content item.entry) }
     {
-        match self {
-            Place::States { n, .. } => n,
-            _ => 0,
-        }
-    }
-
-    // The kind of the hand-in; 0 elsewhere.
-    fn kind(self) -> u8
-        ensures { result ≡ kind_of self }
-    {
-        match self {
-            Place::Within { kind, .. } => kind,
-            _ => 0,
-        }
-    }
-
-    // The place behind a record that stands here.
-    pub(crate) fn behind(self, item: Record<'_>) -> Place
-        ensures { result ≡ after self (content item.entry) }
-    {
-        let (n, states, choices) = match self {
-            Place::States { n, states, choices } => (n, states, choices),
-            _ => (0, 0, 0),
-        };
-        match item {
-            Record::Md { states, .. } => Place::States {
+        match (self, item) {
+            (Place::HandInDue, Record::Hd { kind, side }) => begun(kind, side),
+            (Place::ModelDue, Record::Md { states, .. }) => Some(Place::States {
                 n: states,
                 states,
                 choices: 0,
-            },
-            Record::St { choices, .. } => Place::States {
-                n,
-                states: states.saturating_sub(1),
-                choices,
-            },
-            Record::Ch { .. } => Place::States {
-                n,
-                states,
-                choices: choices.saturating_sub(1),
-            },
-            Record::Hd { kind, .. } => Place::Within {
-                kind,
-                last: Key::nothing(),
-            },
-            Record::Zz => Place::Done,
-            _ => {
-                let kind = self.kind();
-                Place::Within {
-                    kind,
-                    last: Key::of(kind, item),
-                }
+            }),
+            (Place::Within { .. } | Place::States { .. }, Record::Zz) => Some(Place::Done),
+            (Place::Within { kind, last }, _) => ascended(kind, last, item),
+            (Place::States { n, states, .. }, Record::St { goal, choices }) if goal <= 1 => {
+                Some(Place::States {
+                    n,
+                    states: states.saturating_sub(1),
+                    choices,
+                })
             }
+            (Place::States { n, states, choices }, Record::Ch { entries })
+                if branches_ok(entries, n) => {
+                Some(Place::States {
+                    n,
+                    states,
+                    choices: choices.saturating_sub(1),
+                })
+            }
+            _ => None,
         }
     }
 }

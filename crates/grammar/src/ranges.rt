@@ -1,24 +1,16 @@
 // Whether the fields of a record are in their ranges.
 ghost use Rattle.std.specs.Prelude.{◌≡◌};
 ghost use Rattle.records.specs.Held.{content, branches, portions};
-ghost use Rattle.grammar.specs.HandIn.{head_ok, portions_ok, portion_precedes};
+ghost use Rattle.grammar.specs.HandIn.{fields_ok, portions_ok, portion_precedes};
 ghost use Rattle.grammar.specs.ModelFile.{branches_ok};
-ghost use Rattle.grammar.specs.Place.{in_range};
 
-use crate::place::Place;
 use records::{Portion, Record, branch_at, portion_at};
 
 // The largest claim: it stands for 1.
 const UNIT: u32 = 1048576;
 
-fn head_ok(kind: u8, side: u8) -> bool
-    ensures { result ≡ head_ok kind side }
-{
-    1 <= kind && kind <= 5 && (side == 0 || (side == 1 && kind <= 2))
-}
-
 // Whether the targets ascend strictly and are below n, and the weights are at least 1.
-fn branches_ok(entries: &[u8], n: u16) -> bool
+pub(crate) fn branches_ok(entries: &[u8], n: u16) -> bool
     ensures { result ≡ branches_ok n 0 (branches entries.now) }
 {
     let mut least: u32 = 0;
@@ -60,19 +52,13 @@ fn portions_ok(entries: &[u8]) -> bool
     true
 }
 
-impl Place {
-    // Whether the fields of a record are in range here.
-    pub(crate) fn in_range(self, item: Record<'_>) -> bool
-        ensures { result ≡ in_range self (content item.entry) }
-    {
-        match item {
-            Record::St { goal, .. } => goal <= 1,
-            Record::Ch { entries } => branches_ok(entries, self.states_in()),
-            Record::Hd { kind, side } => head_ok(kind, side),
-            Record::Ce { claim, .. } => claim <= UNIT,
-            Record::Fl { claim, .. } => claim <= UNIT,
-            Record::Wf { entries, .. } => portions_ok(entries),
-            _ => true,
-        }
+// Whether the fields of a record of a hand-in's body are in their ranges.
+pub(crate) fn fields_ok(item: Record<'_>) -> bool
+    ensures { result ≡ fields_ok (content item.entry) }
+{
+    match item {
+        Record::Ce { claim, .. } | Record::Fl { claim, .. } => claim <= UNIT,
+        Record::Wf { entries, .. } => portions_ok(entries),
+        _ => true,
     }
 }

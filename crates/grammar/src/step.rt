@@ -1,12 +1,10 @@
 // One record more: what may follow at a place, and what may not.
 ghost use Rattle.std.specs.Prelude.{◌≡◌};
 ghost use Rattle.records.specs.Held.{content, whole};
-ghost use Rattle.grammar.specs.Place.{ascends};
 ghost use Rattle.grammar.specs.Step.{step};
 
-use crate::order::Key;
 use crate::place::Place;
-use records::{Mark, Record};
+use records::Record;
 
 // Why a record cannot stand at a place.
 #[derive(Clone, Copy)]
@@ -18,17 +16,6 @@ pub enum Misfit {
 }
 
 impl Place {
-    // Whether the record comes after the one before it.
-    fn ascends_to(self, item: Record<'_>) -> bool
-        ensures { result ≡ ascends self (content item.entry) }
-    {
-        match self {
-            Place::Within { kind, last } => item.mark().is(Mark::Zz)
-                || last.precedes(Key::of(kind, item)),
-            _ => true,
-        }
-    }
-
     // The place behind a record that is to stand here.
     pub fn step(self, item: Record<'_>) -> Result<Place, Misfit>
         ensures { result ≡ step self (whole item.entry) (content item.entry) }
@@ -36,9 +23,9 @@ impl Place {
         if !self.allows(item.mark()) {
             return Err(Misfit::BadMark);
         }
-        if !item.is_whole() || !self.in_range(item) || !self.ascends_to(item) {
+        if !item.is_whole() {
             return Err(Misfit::BadField);
         }
-        Ok(self.behind(item))
+        self.behind(item).ok_or(Misfit::BadField)
     }
 }

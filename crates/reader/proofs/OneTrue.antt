@@ -1,6 +1,6 @@
 -- The reading of a unit is true of the bytes, and nothing else is.
-use Rattle.std.proofs.Common.{◌≡◌, ℕ, zero, suc, ◌+◌, ◌-◌, ◌<◌, ◌≤◌, Bool, true, false, cond, ltb, List, [], ◌∷◌, ◌++◌, length, get_or, drop, Ok, Err, Result, sym, refl, ap, ◌∙◌, subst, inl, inr, append_assoc, add-zero, arith}
-use Rattle.std.proofs.lemmas.Bool.{le-ltb, ltb-true, ltb-false, cond-true, cond-false, true≢false}
+use Rattle.std.proofs.Common.{◌≡◌, ℕ, zero, suc, ◌+◌, ◌-◌, ◌<◌, ◌≤◌, true, false, ltb, List, [], ◌∷◌, ◌++◌, length, get_or, drop, Ok, Err, Result, sym, refl, ap, ◌∙◌, subst, inl, inr, append_assoc, add-zero, arith}
+use Rattle.std.proofs.lemmas.Bool.{ltb-true, ltb-false, cond_both, cond-true, cond-false, true≢false, true_from_ne_false, false_from_ne_true}
 use Rattle.std.proofs.lemmas.List.{append-nil, length-append, drop-drop, drop_at, flat_map_more}
 use Rattle.records.specs.declared.content.Mark.{Mark}
 use Rattle.records.specs.declared.decoding.NoMark.{NoMark}
@@ -18,7 +18,7 @@ use Rattle.grammar.proofs.Lawful.{Lawful, Leads, leads_push, lawful_from, lawful
 use Rattle.grammar.proofs.Going.{goes_on, goes_on_only, allows, allows_only, unfinished, front, not_over}
 use Rattle.reader.specs.Exact.{Marked, Ends, BadMark, BadField, Front, Because, stopped, fault, Reading, read, True, Exactly, prefixed}
 use Rattle.reader.specs.Reading.{Outcome, got, refused, at_mark, record_at, next_of, read_from, reading}
-use Rattle.reader.proofs.Steps.{Lies, within, none_left, read_over, read_got, read_refused, prefixed_twice, record_got}
+use Rattle.reader.proofs.Steps.{Lies, within, none_left, read_over, read_got, read_refused, prefixed_none, prefixed_twice, record_reached, record_got}
 use Rattle.records.proofs.Standing.{stands, record_bytes}
 use Rattle.reader.proofs.Stands.{marked_mark, mark_marked, cut_short, unknown_long, long_mark, not_cut_short, begins}
 
@@ -28,14 +28,11 @@ module _ (xs : List ℕ) where
   reads_record : (p : Place) (at : ℕ) (r : Content) (zs : List ℕ) → drop at xs ≡ encode r ++ zs → Fits r → allowed p (mark_of r) ≡ true → fits p r ≡ true → got r (at + length (encode r)) ≡ record_at p xs at
   reads_record p at r zs e g a n =
       let s = stands xs zs at r e g in
-      record_got p xs at (mark_of r) r (at + length (encode r)) (sym s.mark) a (let z = s.size in let w = s.room in omega arith) (sym s.content) (ap (λ k. at + k) (sym s.size)) n
+      record_got p xs at (mark_of r) (sym s.mark) a r (at + length (encode r)) (let z = s.size in let w = s.room in omega arith) (sym s.content) (ap (λ k. at + k) (sym s.size)) n
 
   -- reading goes through records that stand there and follow one another
   follow : (ds : List Content) (p q : Place) (at : ℕ) (ys : List ℕ) → Leads p ds q → AllFit ds → drop at xs ≡ encodes ds ++ ys → reading p xs at ≡ prefixed ds (reading q xs (at + length (encodes ds)))
-  follow [] p q at ys l g e = by (reading q xs (at + 0)) (ap (λ k. reading k xs at) l ∙ ap (reading q xs) (sym (add-zero at)))
-    where
-      by : (v : Reading) → reading p xs at ≡ v → reading p xs at ≡ prefixed [] v
-      by (read rs k) h = h
+  follow [] p q at ys l g e = ap (λ k. reading k xs at) l ∙ ap (reading q xs) (sym (add-zero at)) ∙ sym (prefixed_none (reading q xs (at + 0)))
   follow (d ∷ ds) p q at ys l g e =
       let next = at + length (encode d) in
       let rest = encodes ds ++ ys in
@@ -59,10 +56,6 @@ module _ (start : Place) (W : List Content → Type 0) (to : (rs : List Content)
   abbrev Told : List Content → Place → ℕ → Outcome → Type 0
   Told ds p at (got r next) = (drop at xs ≡ encode r ++ drop next xs) × (next ≡ at + length (encode r)) × (next ≤ length xs) × (allowed p (mark_of r) ≡ true) × (fits p r ≡ true) × Fits r
   Told ds p at (refused n o) = Because W ds (drop at xs) n
-
-  told_or : (ds : List Content) (p : Place) (at : ℕ) (b : Bool) (x y : Outcome) → (b ≡ true → Told ds p at x) → (b ≡ false → Told ds p at y) → Told ds p at (cond b x y)
-  told_or ds p at true x y s t = s refl
-  told_or ds p at false x y s t = t refl
 
   module _ (ds : List Content) (p : Place) (l : Leads start ds p) (at : ℕ) where
     one_mark : (m k : Mark) → Ok m ≡ mark_at xs at → Marked (drop at xs) k → k ≡ m
@@ -103,11 +96,11 @@ module _ (start : Place) (W : List Content → Type 0) (to : (rs : List Content)
     told_mark : (m : Result Mark NoMark) → m ≡ mark_at xs at → Told ds p at (at_mark p xs at m)
     told_mark (Err Cut) e = inl (refl, inl (cut_short xs at e))
     told_mark (Err Unknown) e =
-        inr (inl (refl, (unknown_long xs at e, λ k g w. let h = marked_mark xs at k g in let z : ◌≡◌ {A = ℕ} 0 1 = cc in omega arith)))
+        inr (inl (refl, (unknown_long xs at e, λ k g w. let h = marked_mark xs at k g in cc)))
     told_mark (Ok m) e =
-        told_or ds p at (allowed p m) _ _
-        (λ a. told_or ds p at (ltb (length xs) (at + size m xs at)) _ _ (λ h. inl (refl, too_short m e a h))
-        (λ h. told_or ds p at (fits p (decoded m xs at)) _ _ (λ n. got_record m e a (ltb-false (length xs) (at + size m xs at) h) n)
+        cond_both (allowed p m) _ _ (Told ds p at)
+        (λ a. cond_both (ltb (length xs) (at + size m xs at)) _ _ (Told ds p at) (λ h. inl (refl, too_short m e a h))
+        (λ h. cond_both (fits p (decoded m xs at)) _ _ (Told ds p at) (λ n. got_record m e a (ltb-false (length xs) (at + size m xs at) h) n)
         (λ n. inr (inr (refl, bad_field m e a (ltb-false (length xs) (at + size m xs at) h) n)))))
         (λ a. inr (inl (refl, not_allowed m e a)))
 
@@ -150,27 +143,20 @@ module _ (start : Place) (W : List Content → Type 0) (to : (rs : List Content)
   by_outcome at₀ ds p at F (got r next) s v t w h =
       subst (True W xs at₀) (sym (prefixed_twice ds (r ∷ []) (F (after p r) next))) (h (after p r) (ds ++ r ∷ []) next w.0 (one_more at₀ ds p at r next s t))
 
-  by_over : (at₀ : ℕ) (ds : List Content) (p : Place) (at : ℕ) (b : Bool) (y : Reading) → over p ≡ b → So_far at₀ ds p at → (b ≡ false → True W xs at₀ (prefixed ds y)) → True W xs at₀ (prefixed ds (cond b (read [] (stopped at)) y))
-  by_over at₀ ds p at true y e s h = finished at₀ ds p at s e
-  by_over at₀ ds p at false y e s h = h refl
-
   holds_from : (n at₀ : ℕ) (ds : List Content) (p : Place) (at : ℕ) → length xs ≤ at + n → So_far at₀ ds p at → True W xs at₀ (prefixed ds (read_from xs n p at))
   holds_from zero at₀ ds p at l s =
-      by_over at₀ ds p at (over p) _ refl s
+      cond_both (over p) _ _ (λ v. True W xs at₀ (prefixed ds v)) (finished at₀ ds p at s)
       (λ o. stuck at₀ ds p at 1 s o (subst (Told ds p at) (none_left p xs at (omega arith)) (told ds p s.leads at)))
   holds_from (suc n) at₀ ds p at l s =
-      by_over at₀ ds p at (over p) _ refl s
+      cond_both (over p) _ _ (λ v. True W xs at₀ (prefixed ds v)) (finished at₀ ds p at s)
       (λ o. by_outcome at₀ ds p at (read_from xs n) (record_at p xs at) s o (told ds p s.leads at) (within p xs at)
       (λ q es next k t. holds_from n at₀ es q next (omega arith) t))
 
   pub holds : (at : ℕ) → over start ≡ false → True W xs at (reading start xs at)
   holds at o =
-      subst (True W xs at) (by (reading start xs at))
+      subst (True W xs at) (prefixed_none (reading start xs at))
       (holds_from (length xs - at) at [] start at (omega arith)
       (record { leads = refl; bytes = refl; ends = omega arith; within = λ v. absurd (true≢false (sym v ∙ o)); fit = tt }))
-    where
-      by : (v : Reading) → prefixed [] v ≡ v
-      by (read rs e) = refl
 
   module _ (ds : List Content) (p : Place) (l : Leads start ds p) (at : ℕ) where
     refuses_short : Ends W ds (drop at xs) → record_at p xs at ≡ refused 1 at
@@ -179,25 +165,18 @@ module _ (start : Place) (W : List Content → Type 0) (to : (rs : List Content)
         let m = h.0 in
         let e = marked_mark xs at m h.1 in
         let a = allows_only start W to from ds p m l h.2 in
-        ap (at_mark p xs at) e ∙ cond-true (allowed p m) _ _ a
-        ∙ cond-true (ltb (length xs) (at + size m xs at)) _ _ (short (ltb (length xs) (at + size m xs at)) refl)
-      where
-        short : (b : Bool) → ltb (length xs) (at + size h.0 xs at) ≡ b → b ≡ true
-        short true g = refl
-        short false g =
-            absurd (h.3 (decoded h.0 xs at) (mark_decoded h.0 xs at) (begins xs f at h.0 (sym (marked_mark xs at h.0 h.1)) (ltb-false (length xs) (at + size h.0 xs at) g)))
+        let n = ltb (length xs) (at + size m xs at) in
+        let short : n ≡ true =
+        true_from_ne_false n (λ g. h.3 (decoded m xs at) (mark_decoded m xs at) (begins xs f at m (sym e) (ltb-false (length xs) (at + size m xs at) g))) in
+        ap (at_mark p xs at) e ∙ cond-true (allowed p m) _ _ a ∙ cond-true n _ _ short
 
     refuses_mark : BadMark W ds (drop at xs) → record_at p xs at ≡ refused 2 at
     refuses_mark h = by (mark_at xs at) refl
       where
-        by_allowed : (m : Mark) → Ok m ≡ mark_at xs at → (b : Bool) → allowed p m ≡ b → b ≡ false
-        by_allowed m e true a = absurd (h.1 m (mark_marked xs at m e) (allows start W to from ds p m l a))
-        by_allowed m e false a = refl
-
         by : (m : Result Mark NoMark) → m ≡ mark_at xs at → at_mark p xs at m ≡ refused 2 at
         by (Err Cut) e = let c = cut_short xs at e in absurd (omega (arith, h.0))
         by (Err Unknown) e = refl
-        by (Ok m) e = cond-false (allowed p m) _ _ (by_allowed m e (allowed p m) refl)
+        by (Ok m) e = cond-false (allowed p m) _ _ (false_from_ne_true (allowed p m) (λ a. h.1 m (mark_marked xs at m e) (allows start W to from ds p m l a)))
 
     refuses_field : BadField W ds (drop at xs) → record_at p xs at ≡ refused 3 at
     refuses_field h =
@@ -206,13 +185,8 @@ module _ (start : Place) (W : List Content → Type 0) (to : (rs : List Content)
         let s = stands xs b.0 at r b.1 b.2 in
         let m = mark_of r in
         let a = allows_only start W to from ds p m l h.2 in
-        ap (at_mark p xs at) s.mark ∙ cond-true (allowed p m) _ _ a
-        ∙ cond-false (ltb (length xs) (at + size m xs at)) _ _ (le-ltb (length xs) (at + size m xs at) (let z = s.size in let w = s.room in omega arith))
-        ∙ cond-false (fits p (decoded m xs at)) _ _ (ap (fits p) s.content ∙ unfit a (fits p r) refl)
-      where
-        unfit : allowed p (mark_of h.0) ≡ true → (b : Bool) → fits p h.0 ≡ b → b ≡ false
-        unfit a true n = absurd (h.3 (goes_on start W to from ds p h.0 l a n))
-        unfit a false n = refl
+        record_reached p xs at m (sym s.mark) a r (let z = s.size in let w = s.room in omega arith) (sym s.content)
+        ∙ cond-false (fits p r) _ _ (false_from_ne_true (fits p r) (λ n. h.3 (goes_on start W to from ds p r l a n)))
 
     refuses : (n : ℕ) → Because W ds (drop at xs) n → record_at p xs at ≡ refused n at
     refuses n (inl h) = refuses_short h.1 ∙ ap (λ k. refused k at) (sym h.0)

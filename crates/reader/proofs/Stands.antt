@@ -3,7 +3,7 @@ use Rattle.std.proofs.Common.{◌≡◌, ℕ, suc, ◌+◌, ◌-◌, ◌<◌, �
 use Rattle.std.proofs.lemmas.Bool.{lt-ltb, le-ltb, ltb-true, ltb-false, cond-true, cond-false}
 use Rattle.std.proofs.lemmas.List.{length-drop, get_or-drop, drop_more}
 use Rattle.records.specs.declared.content.Mark.{Mark}
-use Rattle.records.specs.declared.content.Mark.TheVariants.{Md, St, Ch, Hd, Ce, Fl, Pc, Pm, Rw, Wf, Zz}
+use Rattle.records.specs.declared.content.Mark.TheVariants.{Md}
 use Rattle.records.specs.declared.decoding.NoMark.TheVariants.{Cut, Unknown}
 use Rattle.records.specs.Encode.{first_letter, second_letter}
 use Rattle.records.specs.Decode.{mark_spelled, size, decoded}
@@ -15,16 +15,7 @@ use Rattle.reader.specs.Exact.{Marked, Begins}
 -- the letters of a mark spell it
 pub spelled : (m : Mark) → mark_spelled (first_letter m) (second_letter m) ≡ Some m
 spelled Md = refl
-spelled St = refl
-spelled Ch = refl
-spelled Hd = refl
-spelled Ce = refl
-spelled Fl = refl
-spelled Pc = refl
-spelled Pm = refl
-spelled Rw = refl
-spelled Wf = refl
-spelled Zz = refl
+spelled m = refl
 
 -- a mark whose letters stand there is the mark there
 pub marked_mark : (xs : List ℕ) (at : ℕ) (m : Mark) → Marked (drop at xs) m → mark_at xs at ≡ Ok m
@@ -41,7 +32,7 @@ pub mark_marked : (xs : List ℕ) (at : ℕ) (m : Mark) → Ok m ≡ mark_at xs 
 mark_marked xs at m e = by (ltb (length xs) (at + 2)) refl e
   where
     by : (b : Bool) → ltb (length xs) (at + 2) ≡ b → Ok m ≡ cond b (Err Cut) (known (mark_spelled (get_or xs at 0) (get_or xs (at + 1) 0))) → Marked (drop at xs) m
-    by true h g = let z : ◌≡◌ {A = ℕ} 0 1 = cc in absurd (omega arith)
+    by true h g = absurd (cc)
     by false h g =
         let s = mark_letters xs at m e in
         let l = ltb-false (length xs) (at + 2) h in
@@ -52,8 +43,8 @@ pub cut_short : (xs : List ℕ) (at : ℕ) → Err Cut ≡ mark_at xs at → len
 cut_short xs at e = by (ltb (length xs) (at + 2)) refl e
   where
     not_cut : (o : Option Mark) → Err Cut ≡ known o → ⊥
-    not_cut None g = let z : ◌≡◌ {A = ℕ} 0 1 = cc in omega arith
-    not_cut (Some m) g = let z : ◌≡◌ {A = ℕ} 0 1 = cc in omega arith
+    not_cut None g = cc
+    not_cut (Some m) g = cc
 
     by : (b : Bool) → ltb (length xs) (at + 2) ≡ b → Err Cut ≡ cond b (Err Cut) (known (mark_spelled (get_or xs at 0) (get_or xs (at + 1) 0))) → length (drop at xs) < 2
     by true h g = let l = ltb-true (length xs) (at + 2) h in let d = length-drop at xs in omega arith
@@ -63,7 +54,7 @@ pub unknown_long : (xs : List ℕ) (at : ℕ) → Err Unknown ≡ mark_at xs at 
 unknown_long xs at e = by (ltb (length xs) (at + 2)) refl e
   where
     by : (b : Bool) → ltb (length xs) (at + 2) ≡ b → Err Unknown ≡ cond b (Err Cut) (known (mark_spelled (get_or xs at 0) (get_or xs (at + 1) 0))) → 2 ≤ length (drop at xs)
-    by true h g = let z : ◌≡◌ {A = ℕ} 0 1 = cc in absurd (omega arith)
+    by true h g = absurd (cc)
     by false h g = let l = ltb-false (length xs) (at + 2) h in let d = length-drop at xs in omega arith
 
 pub long_mark : (xs : List ℕ) (at : ℕ) (m : Mark) → Ok m ≡ mark_at xs at → 2 ≤ length (drop at xs)

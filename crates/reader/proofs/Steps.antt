@@ -1,21 +1,27 @@
 -- The reading of a unit, one record at a time.
-use Rattle.std.proofs.Common.{◌≡◌, ℕ, zero, suc, ◌+◌, ◌-◌, ◌≤◌, Bool, true, false, cond, ◌&&◌, ltb, List, [], ◌∷◌, ◌++◌, length, Some, Ok, Err, Option, Result, sym, refl, ap, ◌∙◌, subst, append_assoc, arith}
-use Rattle.std.proofs.lemmas.Bool.{lt-ltb, le-ltb, ltb-false, cond-true, cond-false, and_parts}
+use Rattle.std.proofs.Common.{◌≡◌, ℕ, zero, suc, ◌+◌, ◌-◌, ◌≤◌, Bool, true, false, cond, ◌&&◌, ltb, List, [], ◌∷◌, ◌++◌, length, Some, Ok, Err, Option, Result, is_ok, sym, refl, ap, ◌∙◌, subst, append_assoc, arith}
+use Rattle.std.specs.Result.{MatchResult, IsErrAnd}
+use Rattle.std.proofs.lemmas.Bool.{lt-ltb, le-ltb, ltb-false, cond_both, cond-true, cond-false, and_parts, true≢false}
+use Rattle.std.proofs.lemmas.Result.{err_from_is_err_and}
 use Rattle.records.specs.declared.content.Mark.{Mark}
-use Rattle.records.specs.declared.content.Mark.TheVariants.{Md, St, Ch, Hd, Ce, Fl, Pc, Pm, Rw, Wf, Zz}
+use Rattle.records.specs.declared.content.Mark.TheVariants.{Md}
 use Rattle.records.specs.declared.decoding.NoMark.{NoMark}
 use Rattle.records.specs.declared.decoding.NoMark.TheVariants.{Cut, Unknown}
 use Rattle.records.specs.Content.{Content, mark_of}
 use Rattle.records.specs.Decode.{size, decoded}
 use Rattle.records.specs.declared.content.Record.{Record}
-use Rattle.records.specs.Held.{content, mark_at}
+use Rattle.records.specs.Held.{content, whole, mark_at, Decodes}
+use Rattle.records.proofs.Exactness.{mark_decoded}
 use Rattle.grammar.specs.declared.place.Place.{Place}
+use Rattle.grammar.specs.declared.step.Misfit.{Misfit}
 use Rattle.grammar.specs.declared.step.Misfit.TheVariants.{BadMark, BadField}
 use Rattle.grammar.specs.Step.{step}
 use Rattle.grammar.specs.Place.{allowed, fits, after, over}
+use Rattle.reader.specs.declared.fault.ReadFault.{ReadFault}
 use Rattle.reader.specs.declared.reading.Reader.{Reader}
 use Rattle.reader.specs.Answer.{rest_of, Next}
 use Rattle.reader.specs.Exact.{stopped, fault, Reading, read, prefixed}
+use Rattle.reader.specs.Faults.{fault_of_misfit, number_of, place_of}
 use Rattle.reader.specs.Reading.{Outcome, got, refused, at_mark, record_at, next_of, read_from, reading}
 
 -- where a record that was read lies
@@ -25,28 +31,15 @@ Lies xs at (refused n o) = at ≡ o
 
 size_least : (m : Mark) (xs : List ℕ) (at : ℕ) → 2 ≤ size m xs at
 size_least Md xs at = omega arith
-size_least St xs at = omega arith
-size_least Ch xs at = omega arith
-size_least Hd xs at = omega arith
-size_least Ce xs at = omega arith
-size_least Fl xs at = omega arith
-size_least Pc xs at = omega arith
-size_least Pm xs at = omega arith
-size_least Rw xs at = omega arith
-size_least Wf xs at = omega arith
-size_least Zz xs at = omega arith
-
-within_or : (xs : List ℕ) (at : ℕ) (b : Bool) (x y : Outcome) → (b ≡ true → Lies xs at x) → (b ≡ false → Lies xs at y) → Lies xs at (cond b x y)
-within_or xs at true x y f g = f refl
-within_or xs at false x y f g = g refl
+size_least m xs at = omega arith
 
 within_mark : (p : Place) (xs : List ℕ) (at : ℕ) (m : Result Mark NoMark) → Lies xs at (at_mark p xs at m)
 within_mark p xs at (Err Cut) = refl
 within_mark p xs at (Err Unknown) = refl
 within_mark p xs at (Ok m) =
-    within_or xs at (allowed p m) _ _
-    (λ a. within_or xs at (ltb (length xs) (at + size m xs at)) _ _ (λ e. refl)
-    (λ e. within_or xs at (fits p (decoded m xs at)) _ _ (λ f. (omega (arith, size_least m xs at), ltb-false (length xs) (at + size m xs at) e)) (λ f. refl)))
+    cond_both (allowed p m) _ _ (Lies xs at)
+    (λ a. cond_both (ltb (length xs) (at + size m xs at)) _ _ (Lies xs at) (λ e. refl)
+    (λ e. cond_both (fits p (decoded m xs at)) _ _ (Lies xs at) (λ f. (omega (arith, size_least m xs at), ltb-false (length xs) (at + size m xs at) e)) (λ f. refl)))
     (λ a. refl)
 
 -- a record that was read is no longer than the bytes, and a fault stands where it was met
@@ -94,13 +87,27 @@ read_over p xs at e = over_turns (length xs - at) p xs at e
 pub read_got : (p : Place) (xs : List ℕ) (at : ℕ) (r : Content) (next : ℕ) → over p ≡ false → got r next ≡ record_at p xs at → reading p xs at ≡ prefixed (r ∷ []) (reading (after p r) xs next)
 read_got p xs at r next e g = read_step p xs at e ∙ ap (next_of p (onward xs)) (sym g)
 
+-- the same of readers, before and behind the record
+pub next_got : (r s : Reader) (item : Record) → over r.place ≡ false → got (content item) s.at ≡ record_at r.place r.bytes.now r.at → s.place ≡ after r.place (content item) → s.bytes ≡ r.bytes → rest_of r ≡ prefixed (content item ∷ []) (rest_of s)
+next_got r s item o g p b =
+    read_got r.place r.bytes.now r.at (content item) s.at o g
+    ∙ ap (prefixed (content item ∷ [])) (ap (λ q. reading q r.bytes.now s.at) (sym p) ∙ ap (λ x. reading s.place x.now s.at) (sym b))
+
 -- the fault, where there is none
 pub read_refused : (p : Place) (xs : List ℕ) (at n o : ℕ) → over p ≡ false → refused n o ≡ record_at p xs at → reading p xs at ≡ read [] (fault n o)
 read_refused p xs at n o e g = read_step p xs at e ∙ ap (next_of p (onward xs)) (sym g)
 
 -- the records so far stand in front of what is read on
+pub prefixed_none : (v : Reading) → prefixed [] v ≡ v
+prefixed_none (read rs e) = refl
+
 pub prefixed_twice : (ds es : List Content) (v : Reading) → prefixed ds (prefixed es v) ≡ prefixed (ds ++ es) v
 prefixed_twice ds es (read rs e) = ap (λ ts. read ts e) (sym (append_assoc ds es rs))
+
+-- a result whose error was mapped
+pub map_err-ok : {T E D : Type 0} (r : Result T E) (s : Result T D) (P : E → Type 0) (x : T) → MatchResult r (λ y. s ≡ Ok y) P → is_ok s ≡ is_ok r → s ≡ Ok x → r ≡ Ok x
+map_err-ok (Ok y) s P x c v e = cc
+map_err-ok (Err d) s P x c v e = absurd (true≢false (sym (ap is_ok e) ∙ v))
 
 -- what a step that was accepted says
 pub step_ok : (p q : Place) (w : Bool) (r : Content) → Ok q ≡ step p w r → (fits p r ≡ true) × (q ≡ after p r)
@@ -108,20 +115,44 @@ step_ok p q w r e = by_mark (allowed p (mark_of r)) e
   where
     by_fields : (b : Bool) → (w && fits p r) ≡ b → Ok q ≡ cond b (Ok (after p r)) (Err BadField) → (fits p r ≡ true) × (q ≡ after p r)
     by_fields true h g = ((and_parts w (fits p r) h).1, cc)
-    by_fields false h g = let z : ◌≡◌ {A = ℕ} 0 1 = cc in absurd (omega arith)
+    by_fields false h g = absurd (cc)
 
     by_mark : (b : Bool) → Ok q ≡ cond b (cond (w && fits p r) (Ok (after p r)) (Err BadField)) (Err BadMark) → (fits p r ≡ true) × (q ≡ after p r)
     by_mark true g = by_fields (w && fits p r) refl g
-    by_mark false g = let z : ◌≡◌ {A = ℕ} 0 1 = cc in absurd (omega arith)
+    by_mark false g = absurd (cc)
+
+-- a step that was refused where the mark is allowed and the entries are whole
+step_refused : (p : Place) (w : Bool) (r : Content) (m : Misfit) → allowed p (mark_of r) ≡ true → w ≡ true → Err m ≡ step p w r → (m ≡ BadField) × (fits p r ≡ false)
+step_refused p w r m a t e =
+    by_fields (fits p r) refl (e ∙ cond-true (allowed p (mark_of r)) _ _ a ∙ ap (λ b. cond (b && fits p r) (Ok (after p r)) (Err BadField)) t)
+  where
+    by_fields : (b : Bool) → fits p r ≡ b → Err m ≡ cond b (Ok (after p r)) (Err BadField) → (m ≡ BadField) × (b ≡ false)
+    by_fields true h g = absurd (cc)
+    by_fields false h g = (cc, refl)
 
 -- a record that stands there and is allowed there
-pub record_got : (p : Place) (xs : List ℕ) (at : ℕ) (m : Mark) (r : Content) (next : ℕ) → Ok m ≡ mark_at xs at → allowed p m ≡ true → at + size m xs at ≤ length xs → r ≡ decoded m xs at → next ≡ at + size m xs at → fits p r ≡ true → got r next ≡ record_at p xs at
-record_got p xs at m r next k a s d n f =
-    sym (ap (at_mark p xs at) (sym k)
-    ∙ cond-true (allowed p m) _ _ a
-    ∙ cond-false (ltb (length xs) (at + size m xs at)) _ _ (le-ltb (length xs) (at + size m xs at) s)
-    ∙ cond-true (fits p (decoded m xs at)) _ _ (ap (fits p) (sym d) ∙ f)
-    ∙ ap (λ x. got x (at + size m xs at)) (sym d) ∙ ap (got r) (sym n))
+module _ (p : Place) (xs : List ℕ) (at : ℕ) (m : Mark) (k : Ok m ≡ mark_at xs at) (a : allowed p m ≡ true) where
+  pub record_reached : (r : Content) → at + size m xs at ≤ length xs → r ≡ decoded m xs at → record_at p xs at ≡ cond (fits p r) (got r (at + size m xs at)) (refused 3 at)
+  record_reached r s d =
+      ap (at_mark p xs at) (sym k)
+      ∙ cond-true (allowed p m) _ _ a
+      ∙ cond-false (ltb (length xs) (at + size m xs at)) _ _ (le-ltb (length xs) (at + size m xs at) s)
+      ∙ ap (λ x. cond (fits p x) (got x (at + size m xs at)) (refused 3 at)) (sym d)
+
+  pub record_got : (r : Content) (next : ℕ) → at + size m xs at ≤ length xs → r ≡ decoded m xs at → next ≡ at + size m xs at → fits p r ≡ true → got r next ≡ record_at p xs at
+  record_got r next s d n f = sym (record_reached r s d ∙ cond-true (fits p r) _ _ f ∙ ap (got r) (sym n))
+
+  -- the fault of a record that does not fit
+  pub record_refused : (item : Record) (next : ℕ) → Decodes xs at m (Some (item, next)) → (s : Result Place Misfit) → s ≡ step p (whole item) (content item) → (t : Result Place ReadFault) (Q : Misfit → ReadFault → Type 0) → ((e : Misfit) (f : ReadFault) → Q e f → f ≡ fault_of_misfit e at) → MatchResult s (λ q. t ≡ Ok q) (λ e. IsErrAnd t (Q e)) → (f : ReadFault) → t ≡ Err f → refused (number_of f) (place_of f) ≡ record_at p xs at
+  record_refused item next d (Ok q) e t Q w c f g = absurd (cc)
+  record_refused item next d (Err n) e t Q w c f g =
+      let r = content item in
+      let marked : mark_of r ≡ m = ap mark_of d.1 ∙ mark_decoded m xs at in
+      let o = step_refused p (whole item) r n (ap (allowed p) marked ∙ a) d.3 e in
+      let y = err_from_is_err_and t c in
+      let same : f ≡ y.0 = cc in
+      ap (λ x. refused (number_of x) (place_of x)) (same ∙ w n y.0 y.2 ∙ ap (λ x. fault_of_misfit x at) o.0)
+      ∙ sym (record_reached r d.0 d.1 ∙ cond-false (fits p r) _ _ o.1)
 
 -- what a reader that gave a record says of what is left
 pub next_some : (r s : Reader) (o : Option (ℕ × Record)) (x : ℕ × Record) → o ≡ Some x → Next r s (Ok o) → rest_of r ≡ prefixed (content x.1 ∷ []) (rest_of s)

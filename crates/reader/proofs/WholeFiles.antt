@@ -1,40 +1,29 @@
 -- What is promised of readers and of whole files, from the one true reading.
-use Rattle.std.proofs.Common.{◌≡◌, ℕ, ◌<◌, ◌≤◌, List, length, get_or, Ok, Err, Result, sym, refl, ap, ◌∙◌, subst, inl, inr, arith}
+use Rattle.std.proofs.Common.{◌≡◌, ℕ, ◌<◌, ◌≤◌, List, length, get_or, Ok, Err, Result, sym, refl, ap, subst, inl, inr, arith}
 use Rattle.records.specs.Content.{Content}
-use Rattle.grammar.specs.declared.place.Place.{Place}
-use Rattle.grammar.specs.declared.place.Place.TheVariants.{HandInDue, ModelDue, Within, States, Done}
-use Rattle.grammar.specs.HandIn.{HandIn}
-use Rattle.grammar.specs.ModelFile.{ModelFile}
+use Rattle.grammar.specs.declared.place.Place.TheVariants.{HandInDue, ModelDue}
 use Rattle.grammar.specs.File.{Reads}
 use Rattle.grammar.proofs.HandIns.{lawful_hand_in, hand_in_lawful}
 use Rattle.grammar.proofs.ModelFiles.{lawful_model_file, model_file_lawful}
 use Rattle.reader.specs.declared.fault.ReadFault.{ReadFault}
 use Rattle.reader.specs.declared.fault.ReadFault.TheVariants as faults
+use Rattle.reader.specs.declared.format.Format.{Format}
+use Rattle.reader.specs.declared.format.Format.TheVariants.{HandIn, ModelFile}
 use Rattle.reader.specs.declared.reading.Reader.{Reader}
+use Rattle.reader.specs.Format.{IsFile, start_of}
 use Rattle.reader.specs.Faults.{number_of, place_of}
-use Rattle.reader.specs.Exact.{stopped, fault, Reading, read, True, Exactly}
+use Rattle.reader.specs.Exact.{stopped, fault, read, True, Exactly}
 use Rattle.reader.specs.Reading.{reading}
-use Rattle.reader.specs.Answer.{rest_of, Alone, ReadsWhole, Due, SoleDue}
+use Rattle.reader.specs.Answer.{rest_of, Alone, ReadsWhole, Sole}
 use Rattle.reader.proofs.OneTrue.{exactly}
 
 -- a fault is known by its number and its place
 same_fault : (f g : ReadFault) → number_of f ≡ number_of g → place_of f ≡ place_of g → f ≡ g
 same_fault (faults.Ends a) (faults.Ends b) n p = ap faults.Ends p
-same_fault (faults.Ends a) (faults.BadMark b) n p = absurd (omega arith)
-same_fault (faults.Ends a) (faults.BadField b) n p = absurd (omega arith)
-same_fault (faults.Ends a) (faults.Surplus b) n p = absurd (omega arith)
-same_fault (faults.BadMark a) (faults.Ends b) n p = absurd (omega arith)
 same_fault (faults.BadMark a) (faults.BadMark b) n p = ap faults.BadMark p
-same_fault (faults.BadMark a) (faults.BadField b) n p = absurd (omega arith)
-same_fault (faults.BadMark a) (faults.Surplus b) n p = absurd (omega arith)
-same_fault (faults.BadField a) (faults.Ends b) n p = absurd (omega arith)
-same_fault (faults.BadField a) (faults.BadMark b) n p = absurd (omega arith)
 same_fault (faults.BadField a) (faults.BadField b) n p = ap faults.BadField p
-same_fault (faults.BadField a) (faults.Surplus b) n p = absurd (omega arith)
-same_fault (faults.Surplus a) (faults.Ends b) n p = absurd (omega arith)
-same_fault (faults.Surplus a) (faults.BadMark b) n p = absurd (omega arith)
-same_fault (faults.Surplus a) (faults.BadField b) n p = absurd (omega arith)
 same_fault (faults.Surplus a) (faults.Surplus b) n p = ap faults.Surplus p
+same_fault f g n p = absurd (omega arith)
 
 -- what is read whole, or else the first fault, from the one true reading
 module _ (W : List Content → Type 0) (r : Reader) (xs : List ℕ) (b : r.bytes.now ≡ xs) (e : Exactly W xs 0 (rest_of r)) where
@@ -44,7 +33,7 @@ module _ (W : List Content → Type 0) (r : Reader) (xs : List ℕ) (b : r.bytes
       let z : o ≡ length xs = let k = t.within in omega arith in
       subst (λ k. Reads W xs 0 k rs) z t
 
-  pub alone_whole : (a : Result (Unit {0}) ReadFault) → Alone r a → ReadsWhole W xs a
+  alone_whole : (a : Result (Unit {0}) ReadFault) → Alone r a → ReadsWhole W xs a
   alone_whole (Ok u) h = (h.0, reads_whole h.1 h.0 h.2 (subst (λ ys. length ys ≤ h.1) b h.3))
   alone_whole (Err f) (inl h) = let t : True W xs 0 (read h.0 (fault (number_of f) (place_of f))) = subst (True W xs 0) h.1 e.holds in inl (h.0, t.0, t.1)
   alone_whole (Err f) (inr h) =
@@ -60,29 +49,19 @@ module _ (W : List Content → Type 0) (r : Reader) (xs : List ℕ) (b : r.bytes
   -- two answers that both say how the reading ends are one
   one_answer : (a c : Result (Unit {0}) ReadFault) → Alone r a → Alone r c → a ≡ c
   one_answer (Ok u) (Ok v) h k = refl
-  one_answer (Ok u) (Err g) h (inl k) = let p = h.2 in let q = k.1 in let z : ◌≡◌ {A = ℕ} 0 1 = cc in absurd (omega arith)
-  one_answer (Ok u) (Err g) h (inr k) = let p = h.2 in let q = k.1.1 in let z : h.1 ≡ place_of g = cc in absurd (omega (arith, h.3, k.2))
-  one_answer (Err f) (Ok v) (inl h) k = let p = h.1 in let q = k.2 in let z : ◌≡◌ {A = ℕ} 0 1 = cc in absurd (omega arith)
-  one_answer (Err f) (Ok v) (inr h) k = let p = h.1.1 in let q = k.2 in let z : k.1 ≡ place_of f = cc in absurd (omega (arith, k.3, h.2))
-  one_answer (Err f) (Err g) (inl h) (inl k) = let p = h.1 in let q = k.1 in ap Err (same_fault f g (cc) (cc))
-  one_answer (Err f) (Err g) (inl h) (inr k) = let p = h.1 in let q = k.1.1 in let z : ◌≡◌ {A = ℕ} 0 1 = cc in absurd (omega arith)
-  one_answer (Err f) (Err g) (inr h) (inl k) = let p = h.1.1 in let q = k.1 in let z : ◌≡◌ {A = ℕ} 0 1 = cc in absurd (omega arith)
-  one_answer (Err f) (Err g) (inr h) (inr k) = let p = h.1.1 in let q = k.1.1 in ap Err (same_fault f g (h.0 ∙ sym k.0) (cc))
+  one_answer (Ok u) (Err g) h (inl k) = absurd (cc)
+  one_answer (Ok u) (Err g) h (inr k) = let z : h.1 ≡ place_of g = cc in absurd (omega arith)
+  one_answer (Err f) (Ok v) (inl h) k = absurd (cc)
+  one_answer (Err f) (Ok v) (inr h) k = let z : k.1 ≡ place_of f = cc in absurd (omega arith)
+  one_answer (Err f) (Err g) (inl h) (inl k) = ap Err (same_fault f g (cc) (cc))
+  one_answer (Err f) (Err g) (inl h) (inr k) = absurd (cc)
+  one_answer (Err f) (Err g) (inr h) (inl k) = absurd (cc)
+  one_answer (Err f) (Err g) (inr h) (inr k) = ap Err (same_fault f g (cc) (cc))
 
-  pub whole_only : (a : Result (Unit {0}) ReadFault) → Alone r a → (other : Result (Unit {0}) ReadFault) → ReadsWhole W xs other → other ≡ a
-  whole_only a h other k = one_answer other a (whole_alone other k) h
+  pub sole : (a : Result (Unit {0}) ReadFault) → Alone r a → Sole W xs a
+  sole a h = record { right = alone_whole a h; only = λ other k. one_answer other a (whole_alone other k) h }
 
--- what is promised at the place where a unit is due
-pub due : (p : Place) (xs : List ℕ) → ((j : ℕ) → get_or xs j 0 < 256) → (at : ℕ) (v : Reading) → v ≡ reading p xs at → Due p xs at v
-due HandInDue xs f at v e = subst (Exactly HandIn xs at) (sym e) (exactly HandInDue HandIn lawful_hand_in hand_in_lawful xs f at refl)
-due ModelDue xs f at v e = subst (Exactly ModelFile xs at) (sym e) (exactly ModelDue ModelFile lawful_model_file model_file_lawful xs f at refl)
-due (Within kind last) xs f at v e = tt
-due (States n states choices) xs f at v e = tt
-due Done xs f at v e = tt
-
-pub sole_due : (p : Place) (r : Reader) (xs : List ℕ) → r.bytes.now ≡ xs → Due p xs 0 (rest_of r) → (a : Result (Unit {0}) ReadFault) → Alone r a → SoleDue p xs a
-sole_due HandInDue r xs b e a h = record { right = alone_whole HandIn r xs b e a h; only = whole_only HandIn r xs b e a h }
-sole_due ModelDue r xs b e a h = record { right = alone_whole ModelFile r xs b e a h; only = whole_only ModelFile r xs b e a h }
-sole_due (Within kind last) r xs b e a h = tt
-sole_due (States n states choices) r xs b e a h = tt
-sole_due Done r xs b e a h = tt
+-- the reading of a file of a format, from its start on
+pub exactly_file : (m : Format) (xs : List ℕ) → ((j : ℕ) → get_or xs j 0 < 256) → (at : ℕ) → Exactly (IsFile m) xs at (reading (start_of m) xs at)
+exactly_file HandIn xs f at = exactly HandInDue (IsFile HandIn) lawful_hand_in hand_in_lawful xs f at refl
+exactly_file ModelFile xs f at = exactly ModelDue (IsFile ModelFile) lawful_model_file model_file_lawful xs f at refl

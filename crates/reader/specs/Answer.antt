@@ -3,15 +3,11 @@ use Rattle.std.specs.Prelude.{◌≡◌, ℕ, ◌<◌, ◌≤◌, true, ◌⊎�
 use Rattle.records.specs.declared.content.Record.{Record}
 use Rattle.records.specs.Content.{Content}
 use Rattle.records.specs.Held.{content, whole}
-use Rattle.grammar.specs.declared.place.Place.{Place}
-use Rattle.grammar.specs.declared.place.Place.TheVariants.{HandInDue, ModelDue, Within, States, Done}
-use Rattle.grammar.specs.HandIn.{HandIn}
-use Rattle.grammar.specs.ModelFile.{ModelFile}
 use Rattle.grammar.specs.Place.{after}
 use Rattle.reader.specs.declared.fault.ReadFault.{ReadFault}
 use Rattle.reader.specs.declared.reading.Reader.{Reader}
 use Rattle.grammar.specs.File.{Reads}
-use Rattle.reader.specs.Exact.{stopped, fault, Reading, read, records_of, Exactly, FirstFault, prefixed}
+use Rattle.reader.specs.Exact.{stopped, fault, Reading, read, records_of, FirstFault, prefixed}
 use Rattle.reader.specs.Faults.{number_of, place_of}
 use Rattle.reader.specs.Reading.{Outcome, got, refused, reading}
 
@@ -47,27 +43,6 @@ pub record Sole (W : List Content → Type 0) (xs : List ℕ) (a : Result (Unit 
 
 -- The rest is for the functions that these calls are made of.
 
--- What is promised of a reader of the unit that is due at a place, and of reading it whole. Nothing is due behind the start.
-abbrev pub Due : Place → List ℕ → ℕ → Reading → Type 0
-Due HandInDue xs at v = Exactly HandIn xs at v
-Due ModelDue xs at v = Exactly ModelFile xs at v
-Due (Within kind last) xs at v = Unit {0}
-Due (States n states choices) xs at v = Unit {0}
-Due Done xs at v = Unit {0}
-
-abbrev pub SoleDue : Place → List ℕ → Result (Unit {0}) ReadFault → Type 0
-SoleDue HandInDue xs a = Sole HandIn xs a
-SoleDue ModelDue xs a = Sole ModelFile xs a
-SoleDue (Within kind last) xs a = Unit {0}
-SoleDue (States n states choices) xs a = Unit {0}
-SoleDue Done xs a = Unit {0}
-
--- the next record and the reader behind it, or none, or the fault
-abbrev pub Ahead : Reader → Result (Option (Record × Reader)) ReadFault → Type 0
-Ahead r (Ok (Some x)) = (rest_of r ≡ prefixed (content x.0 ∷ []) (rest_of x.1)) × (whole x.0 ≡ true) × (x.1.bytes ≡ r.bytes)
-Ahead r (Ok None) = rest_of r ≡ read [] (stopped r.at)
-Ahead r (Err f) = rest_of r ≡ read [] (fault (number_of f) (place_of f))
-
 -- the unit of a new reader is all that there is; else its fault, or a byte that follows
 abbrev pub Alone : Reader → Result (Unit {0}) ReadFault → Type 0
 Alone r (Ok u) = (rs : List Content) × (behind : ℕ) × (rest_of r ≡ read rs (stopped behind)) × (length r.bytes.now ≤ behind)
@@ -75,11 +50,11 @@ Alone r (Err f) =
     ((rs : List Content) × (rest_of r ≡ read rs (fault (number_of f) (place_of f))))
     ⊎ ((number_of f ≡ 4) × ((rs : List Content) × (rest_of r ≡ read rs (stopped (place_of f)))) × (place_of f < length r.bytes.now))
 
--- the record at an offset, where it ends, and the place behind it
-abbrev pub outcome : Result (Record × ℕ × Place) ReadFault → Outcome
-outcome (Ok x) = got (content x.0) x.1
+-- the record that stands at a reader, and the reader behind it
+abbrev pub outcome : Result (Record × Reader) ReadFault → Outcome
+outcome (Ok x) = got (content x.0) x.1.at
 outcome (Err f) = refused (number_of f) (place_of f)
 
-abbrev pub Behind : Place → Result (Record × ℕ × Place) ReadFault → Type 0
-Behind p (Ok x) = (x.2 ≡ after p (content x.0)) × (whole x.0 ≡ true)
-Behind p (Err f) = Unit {0}
+abbrev pub Behind : Reader → Result (Record × Reader) ReadFault → Type 0
+Behind r (Ok x) = (x.1.place ≡ after r.place (content x.0)) × (x.1.bytes ≡ r.bytes) × (whole x.0 ≡ true)
+Behind r (Err f) = Unit {0}

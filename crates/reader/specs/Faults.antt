@@ -1,5 +1,9 @@
 -- The number of a reading fault, and its place: the offset of the record, for 4 of the byte.
 use Rattle.std.specs.Prelude.{ℕ}
+use Rattle.records.specs.declared.decoding.NoMark.{NoMark}
+use Rattle.records.specs.declared.decoding.NoMark.TheVariants.{Cut, Unknown}
+use Rattle.grammar.specs.declared.step.Misfit as misfit
+use Rattle.grammar.specs.declared.step.Misfit.{Misfit}
 use Rattle.reader.specs.declared.fault.ReadFault.{ReadFault}
 use Rattle.reader.specs.declared.fault.ReadFault.TheVariants.{Ends, BadMark, BadField, Surplus}
 
@@ -14,3 +18,12 @@ place_of (Ends at) = at
 place_of (BadMark at) = at
 place_of (BadField at) = at
 place_of (Surplus at) = at
+
+-- the fault of a record at the offset, by why it has no mark or cannot stand there
+abbrev pub fault_of_mark : NoMark → ℕ → ReadFault
+fault_of_mark Cut at = Ends at
+fault_of_mark Unknown at = BadMark at
+
+abbrev pub fault_of_misfit : Misfit → ℕ → ReadFault
+fault_of_misfit misfit.TheVariants.BadMark at = BadMark at
+fault_of_misfit misfit.TheVariants.BadField at = BadField at

@@ -1,8 +1,10 @@
 // What bytes are refused by that are no readable file: the number, the place, and the words.
 ghost use Rattle.std.specs.Prelude.{◌≡◌, Some};
-ghost use Rattle.reader.specs.Faults.{number_of, place_of};
+ghost use Rattle.reader.specs.Faults.{fault_of_mark, fault_of_misfit, number_of, place_of};
 ghost use Rattle.reader.specs.Words.{fault_words, refusal_words};
 
+use grammar::Misfit;
+use records::NoMark;
 use std::fmt;
 
 // Why the bytes do not read, with the offset of the record, or of the byte, that is at fault.
@@ -19,6 +21,26 @@ pub enum ReadFault {
 }
 
 impl ReadFault {
+    // The fault of a record at an offset where no mark stands.
+    pub(crate) fn of_mark(none: NoMark, at: usize) -> ReadFault
+        ensures { result ≡ fault_of_mark none at }
+    {
+        match none {
+            NoMark::Cut => ReadFault::Ends(at),
+            NoMark::Unknown => ReadFault::BadMark(at),
+        }
+    }
+
+    // The fault of a record at an offset where it cannot stand.
+    pub(crate) fn of_misfit(misfit: Misfit, at: usize) -> ReadFault
+        ensures { result ≡ fault_of_misfit misfit at }
+    {
+        match misfit {
+            Misfit::BadMark => ReadFault::BadMark(at),
+            Misfit::BadField => ReadFault::BadField(at),
+        }
+    }
+
     pub fn number(&self) -> u32
         ensures { result ≡ number_of self.now }
     {
@@ -34,10 +56,10 @@ impl ReadFault {
         ensures { result ≡ place_of self.now }
     {
         match self {
-            ReadFault::Ends(at) => *at,
-            ReadFault::BadMark(at) => *at,
-            ReadFault::BadField(at) => *at,
-            ReadFault::Surplus(at) => *at,
+            ReadFault::Ends(at)
+            | ReadFault::BadMark(at)
+            | ReadFault::BadField(at)
+            | ReadFault::Surplus(at) => *at,
         }
     }
 

@@ -2,6 +2,7 @@
 #![tactic(auto)]
 
 mod fault;
+mod format;
 mod reading;
 
 pub use fault::ReadFault;

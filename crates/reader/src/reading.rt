@@ -3,39 +3,14 @@ ghost use Rattle.std.specs.Prelude.{◌≡◌};
 ghost use Rattle.grammar.specs.HandIn.{HandIn};
 ghost use Rattle.grammar.specs.ModelFile.{ModelFile};
 ghost use Rattle.reader.specs.Exact.{Exactly};
-ghost use Rattle.reader.specs.Reading.{record_at, reading};
-ghost use Rattle.reader.specs.Answer.{rest_of, Next, NextRecord, ReadOn, Sole, Due, SoleDue, Ahead, Alone, outcome, Behind};
+ghost use Rattle.reader.specs.Format.{IsFile};
+ghost use Rattle.reader.specs.Reading.{record_at};
+ghost use Rattle.reader.specs.Answer.{rest_of, Next, NextRecord, ReadOn, Sole, Alone, outcome, Behind};
 
 use crate::fault::ReadFault;
-use grammar::{Misfit, Place};
-use records::{NoMark, Record, decode, mark_at};
-
-// The record at `at`, where it ends, and the place behind it.
-fn record_at<'a>(
-    bytes: &'a [u8],
-    at: usize,
-    place: Place,
-) -> Result<(Record<'a>, usize, Place), ReadFault>
-    ensures value { outcome result ≡ record_at place bytes.now at }
-    ensures behind { Behind place result }
-{
-    let mark = match mark_at(bytes, at) {
-        Ok(mark) => mark,
-        Err(NoMark::Cut) => return Err(ReadFault::Ends(at)),
-        Err(NoMark::Unknown) => return Err(ReadFault::BadMark(at)),
-    };
-    if !place.allows(mark) {
-        return Err(ReadFault::BadMark(at));
-    }
-    let Some((item, next)) = decode(bytes, at, mark) else {
-        return Err(ReadFault::Ends(at));
-    };
-    match place.step(item) {
-        Ok(behind) => Ok((item, next, behind)),
-        Err(Misfit::BadMark) => Err(ReadFault::BadMark(at)),
-        Err(Misfit::BadField) => Err(ReadFault::BadField(at)),
-    }
-}
+use crate::format::Format;
+use grammar::Place;
+use records::{Record, decode, mark_at};
 
 #[derive(Clone, Copy)]
 pub struct Reader<'a> {
@@ -45,18 +20,16 @@ pub struct Reader<'a> {
 }
 
 impl<'a> Reader<'a> {
-    fn at(bytes: &'a [u8], at: usize, place: Place) -> Reader<'a>
-        ensures { (rest_of result ≡ reading place bytes.now at) × (result.bytes.now ≡ bytes.now) }
-    {
-        Reader { bytes, at, place }
-    }
-
-    // A reader of the unit that is due at an offset of the bytes.
-    fn of(bytes: &'a [u8], at: usize, due: Place) -> Reader<'a>
-        ensures exact { Due due bytes.now at (rest_of result) }
+    // A reader of the unit that begins at an offset of the bytes.
+    fn of(format: Format, bytes: &'a [u8], at: usize) -> Reader<'a>
+        ensures exact { Exactly (IsFile format) bytes.now at (rest_of result) }
         ensures bytes { result.bytes.now ≡ bytes.now }
     {
-        Reader::at(bytes, at, due)
+        Reader {
+            bytes,
+            at,
+            place: format.start(),
+        }
     }
 
     // A reader of the hand-in that begins at an offset of the bytes.
@@ -64,7 +37,7 @@ impl<'a> Reader<'a> {
         ensures exact { Exactly HandIn bytes.now at (rest_of result) }
         ensures bytes { result.bytes.now ≡ bytes.now }
     {
-        Reader::of(bytes, at, Place::HandInDue)
+        Reader::of(Format::HandIn, bytes, at)
     }
 
     // A reader of the model file that begins at an offset of the bytes.
@@ -72,7 +45,7 @@ impl<'a> Reader<'a> {
         ensures exact { Exactly ModelFile bytes.now at (rest_of result) }
         ensures bytes { result.bytes.now ≡ bytes.now }
     {
-        Reader::of(bytes, at, Place::ModelDue)
+        Reader::of(Format::ModelFile, bytes, at)
     }
 
     // The offset of the next record; behind ZZ, that of the next unit.
@@ -82,31 +55,39 @@ impl<'a> Reader<'a> {
         self.at
     }
 
-    // The next record, and the reader behind it; None behind ZZ.
-    fn ahead(self) -> Result<Option<(Record<'a>, Reader<'a>)>, ReadFault>
-        ensures { Ahead self.entry result }
+    // The record that stands here, and the reader behind it.
+    fn record(self) -> Result<(Record<'a>, Reader<'a>), ReadFault>
+        ensures value { outcome result ≡ record_at self.entry.place self.entry.bytes.now self.entry.at }
+        ensures behind { Behind self.entry result }
+    {
+        let Reader { bytes, at, place } = self;
+        let mark = mark_at(bytes, at).map_err(|none| ReadFault::of_mark(none, at))?;
+        if !place.allows(mark) {
+            return Err(ReadFault::BadMark(at));
+        }
+        let (item, next) = decode(bytes, at, mark).ok_or(ReadFault::Ends(at))?;
+        let behind = place
+            .step(item)
+            .map_err(|misfit| ReadFault::of_misfit(misfit, at))?;
+        Ok((
+            item,
+            Reader {
+                bytes,
+                at: next,
+                place: behind,
+            },
+        ))
+    }
+
+    // The next record with its offset; None behind ZZ. No Iterator: a fault is met again at each call, so its items would not end.
+    #[tactic(auto, using(crate::proofs::Steps::next_got))]
+    pub fn next(&mut self) -> Result<Option<(usize, Record<'a>)>, ReadFault>
+        ensures { Next self.old self.new result }
     {
         if self.place.is_over() {
             return Ok(None);
         }
-        let (item, next, behind) = record_at(self.bytes, self.at, self.place)?;
-        Ok(Some((
-            item,
-            Reader {
-                bytes: self.bytes,
-                at: next,
-                place: behind,
-            },
-        )))
-    }
-
-    // The next record with its offset; None behind ZZ.
-    pub fn next(&mut self) -> Result<Option<(usize, Record<'a>)>, ReadFault>
-        ensures { Next self.old self.new result }
-    {
-        let Some((item, behind)) = self.ahead()? else {
-            return Ok(None);
-        };
+        let (item, behind) = self.record()?;
         let offset = self.at;
         *self = behind;
         Ok(Some((offset, item)))
@@ -116,11 +97,7 @@ impl<'a> Reader<'a> {
     pub fn next_record(&mut self) -> Option<Record<'a>>
         ensures { NextRecord self.old self.new result }
     {
-        match self.next() {
-            Ok(Some((_, item))) => Some(item),
-            Ok(None) => None,
-            Err(_) => None,
-        }
+        self.next().ok().flatten().map(|(_, item)| item)
     }
 
     // Reads on to the end of the unit, and answers the offset behind it.
@@ -130,36 +107,36 @@ impl<'a> Reader<'a> {
         while let Some(_) = self.next()? {}
         Ok(self.at)
     }
-}
 
-// Whether the unit of a reader is all that there is.
-fn stands_alone(reader: Reader<'_>) -> Result<(), ReadFault>
-    ensures { Alone reader.entry result }
-{
-    let behind = reader.finish()?;
-    if behind < reader.bytes.len() {
-        return Err(ReadFault::Surplus(behind));
+    // Reads on to the end of the unit, which is to be the end of the bytes.
+    fn finish_all(self) -> Result<(), ReadFault>
+        ensures { Alone self.entry result }
+    {
+        let behind = self.finish()?;
+        if behind < self.bytes.len() {
+            return Err(ReadFault::Surplus(behind));
+        }
+        Ok(())
     }
-    Ok(())
 }
 
-// Whether the bytes are the unit that is due, and nothing more.
-fn read_whole(bytes: &[u8], due: Place) -> Result<(), ReadFault>
-    ensures { SoleDue due bytes.now result }
+// Whether the bytes are a file of that format, and nothing more.
+fn read_whole(format: Format, bytes: &[u8]) -> Result<(), ReadFault>
+    ensures { Sole (IsFile format) bytes.now result }
 {
-    stands_alone(Reader::of(bytes, 0, due))
+    Reader::of(format, bytes, 0).finish_all()
 }
 
 // Whether the bytes are a hand-in, and nothing more.
 pub fn read_hand_in(bytes: &[u8]) -> Result<(), ReadFault>
     ensures { Sole HandIn bytes.now result }
 {
-    read_whole(bytes, Place::HandInDue)
+    read_whole(Format::HandIn, bytes)
 }
 
 // Whether the bytes are a model file, and nothing more.
 pub fn read_model_file(bytes: &[u8]) -> Result<(), ReadFault>
     ensures { Sole ModelFile bytes.now result }
 {
-    read_whole(bytes, Place::ModelDue)
+    read_whole(Format::ModelFile, bytes)
 }

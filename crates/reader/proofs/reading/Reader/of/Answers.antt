@@ -1,11 +1,5 @@
-use Rattle.reader.proofs.WholeFiles.{due}
-use Rattle.reader.specs.Answer.{rest_of}
+use Rattle.reader.proofs.WholeFiles.{exactly_file}
 use Rattle.reader.proofs.reading.Reader.of.Goals as goal
 
-pub returns : goal.returns
-returns c =
-    let r = c.at in
-    record {
-      exact = due c.args.due c.args.bytes.now (λ j. (c.type_inv.bytes j).fits) c.args.at (rest_of r.result) r.ensures.0;
-      bytes = r.ensures.1;
-    }
+pub returns-clause-exact : goal.returns-clause-exact
+returns-clause-exact c = rw c.start.ensures (exactly_file c.args.format c.args.bytes.now (λ j. (c.type_inv.bytes j).fits) c.args.at)
