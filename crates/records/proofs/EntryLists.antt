@@ -1,9 +1,10 @@
--- Entries read out of their bytes: how many, the i-th, in a part of the bytes, and their bytes again.
-use Rattle.std.proofs.Common.{◌≡◌, ℕ, zero, suc, ◌+◌, ◌*◌, ◌/◌, ◌%◌, ◌<◌, ◌≤◌, true, ◌&&◌, eqb, ltb, List, [], ◌∷◌, ◌++◌, length, get_or, take, drop, Some, None, sym, refl, ap, ◌∙◌, append_assoc, add-zero, add_assoc, mul-suc, arith}
+-- Entries read out of their bytes: how many, out of chunks, in a part of the bytes, and their bytes again.
+use Rattle.std.proofs.Common.{◌≡◌, ℕ, zero, suc, ◌+◌, ◌*◌, ◌/◌, ◌%◌, ◌<◌, ◌≤◌, true, ◌&&◌, eqb, ltb, List, [], ◌∷◌, ◌++◌, length, get_or, map, take, drop, Some, None, sym, refl, ap, ◌∙◌, append_assoc, add-zero, add_assoc, mul-suc, arith}
 use Rattle.std.proofs.lemmas.Bool.{and_from, eq-eqb, lt-ltb}
 use Rattle.std.specs.List.{slice_get, flat_map}
 use Rattle.std.proofs.lemmas.Option.{slice_get_past}
-use Rattle.std.proofs.lemmas.List.{get_or-take, get_or-drop, length-take, length-drop, length-append}
+use Rattle.std.proofs.lemmas.List.{get_or-take, get_or-drop, length-take, length-drop, length-append, drop-drop}
+use Rattle.std.specs.Simd.{first_chunks}
 use Rattle.records.specs.Decode.{entries_from, branch_from, branches_from, portion_from, portions_from}
 use Rattle.records.specs.Held.{branches, portions}
 use Rattle.records.proofs.Digits.{get_or_past, be2_past}
@@ -18,20 +19,6 @@ module _ {E : Type 0} (w : ℕ) (one : List ℕ → ℕ → E) where
   length-entries zero xs i = refl
   length-entries (suc n) xs i = ap suc (length-entries n xs (i + w))
 
-  nth_from : (n : ℕ) (xs : List ℕ) (at i : ℕ) → i < n → slice_get (entries_from w one n xs at) i ≡ Some (one xs (at + w * i))
-  nth_from zero xs at i h = absurd (omega arith)
-  nth_from (suc n) xs at zero h = let e : at + w * 0 ≡ at = omega arith in rw e refl
-  nth_from (suc n) xs at (suc i) h =
-      let e : at + w + w * i ≡ at + w * suc i = omega (arith, mul-suc w i) in
-      nth_from n xs (at + w) i (omega arith) ∙ ap (λ k. Some (one xs k)) e
-
-  -- the i-th entry, and none past the last
-  pub nth_entries : (n : ℕ) (xs : List ℕ) (i : ℕ) → i < n → slice_get (entries_from w one n xs 0) i ≡ Some (one xs (w * i))
-  nth_entries n xs i h = let e : 0 + w * i ≡ w * i = omega arith in nth_from n xs 0 i h ∙ ap (λ k. Some (one xs k)) e
-
-  pub no_entries : (n : ℕ) (xs : List ℕ) (i : ℕ) → n ≤ i → slice_get (entries_from w one n xs 0) i ≡ None
-  no_entries n xs i h = let l = length-entries n xs 0 in slice_get_past (entries_from w one n xs 0) i (omega arith)
-
   -- the entries inside a part of the bytes are those of the whole
   pub entries_inside : ((xs : List ℕ) (i m j : ℕ) → j + w ≤ m → one (take m (drop i xs)) j ≡ one xs (i + j)) → (n : ℕ) (xs : List ℕ) (i m j : ℕ) → j + w * n ≤ m → entries_from w one n (take m (drop i xs)) j ≡ entries_from w one n xs (i + j)
   entries_inside same zero xs i m j h = refl
@@ -40,6 +27,14 @@ module _ {E : Type 0} (w : ℕ) (one : List ℕ → ℕ → E) where
       let a = same xs i m j (omega arith) in
       let k = entries_inside same n xs i m (j + w) (omega arith) in
       ap (λ e. e ∷ entries_from w one n (take m (drop i xs)) (j + w)) a ∙ ap (λ es. one xs (i + j) ∷ es) (k ∙ ap (entries_from w one n xs) (sym (add_assoc i j w)))
+
+  -- the entries of whole chunks
+  pub entries_of_chunks : ((xs : List ℕ) (i m j : ℕ) → j + w ≤ m → one (take m (drop i xs)) j ≡ one xs (i + j)) → (n : ℕ) (xs : List ℕ) (i : ℕ) → map (λ b. one b 0) (first_chunks w n (drop i xs)) ≡ entries_from w one n xs i
+  entries_of_chunks same zero xs i = refl
+  entries_of_chunks same (suc n) xs i =
+      let e = same xs i w 0 (omega arith) in
+      let d : drop w (drop i xs) ≡ drop (i + w) xs = drop-drop w i xs in
+      rw (d, entries_of_chunks same n xs (i + w)) (ap (λ o. o ∷ entries_from w one n xs (i + w)) (e ∙ ap (one xs) (add-zero i)))
 
   -- entries past a front are the same without the front
   pub entries_past : ((pre ys : List ℕ) (n : ℕ) → one (pre ++ ys) (length pre + n) ≡ one ys n) → (k : ℕ) (pre ys : List ℕ) (n : ℕ) → entries_from w one k (pre ++ ys) (length pre + n) ≡ entries_from w one k ys n
@@ -87,7 +82,7 @@ get_or_part : (xs : List ℕ) (i m j : ℕ) → j < m → get_or (take m (drop i
 get_or_part xs i m j h = get_or-take m (drop i xs) j 0 h ∙ get_or-drop i xs j 0
 
 -- branches: 4 bytes each
-branch_inside : (xs : List ℕ) (i m j : ℕ) → j + 4 ≤ m → branch_from (take m (drop i xs)) j ≡ branch_from xs (i + j)
+pub branch_inside : (xs : List ℕ) (i m j : ℕ) → j + 4 ≤ m → branch_from (take m (drop i xs)) j ≡ branch_from xs (i + j)
 branch_inside xs i m j h =
     let a = get_or_part xs i m j (omega arith) in
     let b = get_or_part xs i m (j + 1) (omega arith) in
@@ -105,7 +100,7 @@ branches_of_part k xs i m e h =
     rw (q, entries_inside 4 branch_from branch_inside k xs i m 0 (omega arith), add-zero) refl
 
 -- portions: 5 bytes each
-portion_inside : (xs : List ℕ) (i m j : ℕ) → j + 5 ≤ m → portion_from (take m (drop i xs)) j ≡ portion_from xs (i + j)
+pub portion_inside : (xs : List ℕ) (i m j : ℕ) → j + 5 ≤ m → portion_from (take m (drop i xs)) j ≡ portion_from xs (i + j)
 portion_inside xs i m j h =
     let a = get_or_part xs i m j (omega arith) in
     let b = get_or_part xs i m (j + 1) (omega arith) in

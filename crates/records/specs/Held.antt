@@ -46,15 +46,6 @@ whole (Rw s r) = true
 whole (Wf s h c m es) = length es.now % 5 == 0 && nat_lt (length es.now / 5) 65536
 whole Zz = true
 
--- the i-th entry is the one whose bytes stand at an offset, or there is none
-abbrev pub BranchStands : List ℕ → ℕ → Option ℕ → Type 0
-BranchStands xs i None = None ≡ slice_get (branches xs) i
-BranchStands xs i (Some at) = (at + 4 ≤ length xs) × (Some (branch_from xs at) ≡ slice_get (branches xs) i)
-
-abbrev pub PortionStands : List ℕ → ℕ → Option ℕ → Type 0
-PortionStands xs i None = None ≡ slice_get (portions xs) i
-PortionStands xs i (Some at) = (at + 5 ≤ length xs) × (Some (portion_from xs at) ≡ slice_get (portions xs) i)
-
 -- the mark that stands at `at`, or why there is none
 abbrev pub known : Option Mark → Result Mark NoMark
 known (Some m) = Ok m

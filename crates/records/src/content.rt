@@ -79,6 +79,11 @@ pub enum Record<'a> {
     Zz,
 }
 
+// How many bytes a branch and a portion take.
+pub const BRANCH_SIZE: usize = 4;
+
+pub const PORTION_SIZE: usize = 5;
+
 // An entry of a CH: what the choice gives to a target.
 #[derive(Clone, Copy)]
 pub struct Branch {
@@ -141,12 +146,12 @@ impl Record<'_> {
     }
 }
 
-// Whether entries of `width` bytes each are whole, and few enough to be counted in two bytes.
-fn entries_whole(entries: &[u8], width: usize) -> bool
-    requires { 0 < width }
-    ensures { result ≡ (length entries.now % width == 0 && nat_lt (length entries.now / width) 65536) }
+// Whether entries of `size` bytes each are whole, and few enough to be counted in two bytes.
+fn entries_whole(entries: &[u8], size: usize) -> bool
+    requires { 0 < size }
+    ensures { result ≡ (length entries.now % size == 0 && nat_lt (length entries.now / size) 65536) }
 {
-    entries.len() % width == 0 && entries.len() / width < 65536
+    entries.len() % size == 0 && entries.len() / size < 65536
 }
 
 impl Record<'_> {
@@ -155,8 +160,8 @@ impl Record<'_> {
         ensures { result ≡ whole self.entry }
     {
         match self {
-            Record::Ch { entries } => entries_whole(entries, 4),
-            Record::Wf { entries, .. } => entries_whole(entries, 5),
+            Record::Ch { entries } => entries_whole(entries, BRANCH_SIZE),
+            Record::Wf { entries, .. } => entries_whole(entries, PORTION_SIZE),
             _ => true,
         }
     }

@@ -6,6 +6,6 @@ mod decoding;
 mod entries;
 mod numbers;
 
-pub use content::{Branch, Mark, Portion, Record};
+pub use content::{BRANCH_SIZE, Branch, Mark, PORTION_SIZE, Portion, Record};
 pub use decoding::{NoMark, decode, mark_at};
-pub use entries::{branch_at, portion_at};
+pub use entries::{Entries, Entry, branches, portions};
