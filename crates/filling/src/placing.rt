@@ -7,7 +7,7 @@ ghost use Rattle.filling.specs.Counted.{tally};
 ghost use Rattle.filling.specs.Placed.{laid, RoomFor, Placed};
 
 use crate::counts::Counts;
-use records::{Branch, Record, branch_at};
+use records::{Branch, Record};
 use tables::{ChoiceRow, StateRow};
 
 // The branches of a choice, from the first place on.
@@ -15,10 +15,8 @@ fn put_branches(table: &mut [Branch], first: usize, entries: &[u8])
     requires { first + length (branches_in entries.now) ≤ length table.old }
     ensures { table.new ≡ laid table.old first (branches_in entries.now) }
 {
-    let mut i = 0;
-    while let Some(branch) = branch_at(entries, i) {
+    for (i, branch) in records::branches(entries).enumerate() {
         table[first + i] = branch;
-        i += 1;
     }
 }
 
@@ -44,7 +42,7 @@ pub(crate) fn put(
         Record::Ch { entries } => {
             choices[counts.choices] = ChoiceRow {
                 first: counts.branches,
-                branches: entries.len() / 4,
+                branches: records::branches(entries).len(),
             };
             put_branches(branches, counts.branches, entries);
         }

@@ -1,6 +1,5 @@
 -- What the code's values stand for.
 use Rattle.std.specs.Prelude.{◌≡◌, ℕ, ◌+◌, ◌/◌, ◌%◌, ◌<◌, ◌≤◌, Bool, true, cond, ◌&&◌, List, ◌++◌, length, drop, Some, None, Ok, Err, Option, Result, ◌==◌, ◌≢◌, nat_lt, slice_index}
-use Rattle.std.specs.List.{slice_get}
 use Rattle.records.specs.declared.content.Branch.{Branch}
 use Rattle.records.specs.declared.content.Portion.{Portion}
 use Rattle.records.specs.declared.content.Mark.{Mark}
@@ -10,7 +9,7 @@ use Rattle.records.specs.declared.decoding.NoMark.{NoMark}
 use Rattle.records.specs.declared.decoding.NoMark.TheVariants.{Cut, Unknown}
 use Rattle.records.specs.Content.{Content, md, st, ch, hd, ce, fl, pc, pm, rw', wf, zz, mark_of}
 use Rattle.records.specs.Encode.{encode, Fits}
-use Rattle.records.specs.Decode.{branch_from, branches_from, portion_from, portions_from, mark_spelled, size, decoded}
+use Rattle.records.specs.Decode.{branches_from, portions_from, mark_spelled, size, decoded}
 
 -- the whole entries in their bytes, 4 or 5 each
 abbrev pub branches : List ℕ → List Branch

@@ -1,5 +1,5 @@
 // The entries of a CH or a WF, one by one, out of their bytes.
-ghost use Rattle.std.specs.Prelude.{◌≡◌, ℕ, ◌^◌, ◌<◌, List};
+ghost use Rattle.std.specs.Prelude.{◌≡◌, ℕ, ◌/◌, ◌^◌, ◌<◌, List, length};
 ghost use Rattle.std.proofs.Common.{rules};
 ghost use Rattle.std.specs.Iterator.{YieldsFirst, item_count};
 ghost use Rattle.records.specs.Decode.{branch_from, portion_from};
@@ -94,7 +94,8 @@ impl<'a, E: Entry<N>, const N: usize> ExactSizeIterator for Entries<'a, E, N> {
 
 // The branches of a CH. Bytes behind the last whole one count for nothing.
 pub fn branches(entries: &[u8]) -> Entries<'_, Branch, BRANCH_SIZE>
-    ensures { result ≡ branches entries.now }
+    ensures value { result ≡ branches entries.now }
+    ensures len { length result ≡ length entries.now / BRANCH_SIZE }
 {
     Entries {
         chunks: entries.as_chunks().0,
@@ -104,7 +105,8 @@ pub fn branches(entries: &[u8]) -> Entries<'_, Branch, BRANCH_SIZE>
 
 // The portions of a WF, likewise.
 pub fn portions(entries: &[u8]) -> Entries<'_, Portion, PORTION_SIZE>
-    ensures { result ≡ portions entries.now }
+    ensures value { result ≡ portions entries.now }
+    ensures len { length result ≡ length entries.now / PORTION_SIZE }
 {
     Entries {
         chunks: entries.as_chunks().0,

@@ -1,3 +1,4 @@
+use Rattle.std.proofs.Common.{rules}
 use Rattle.filling.specs.Fills.{tables}
 use Rattle.filling.proofs.Puts.{state_placed, choice_placed}
 use Rattle.filling.proofs.placing.put.Goals as goal
@@ -10,4 +11,4 @@ returns-in-St c =
 pub returns-in-Ch : goal.returns-in-Ch
 returns-in-Ch c =
     choice_placed c.args.counts c.args.item (tables c.args.states.now c.args.choices.now c.args.branches.now) c.requires
-    c.in-Ch.entries c.put_branches.new.table c.in-Ch.is c.put_branches.ensures
+    c.in-Ch.entries c.len.result c.put_branches.new.table c.in-Ch.is (search rules) c.put_branches.ensures
