@@ -6,6 +6,7 @@ use Rattle.records.specs.declared.content.Mark.{Mark}
 use Rattle.records.specs.declared.content.Record.{Record}
 use Rattle.records.specs.declared.content.Record.TheVariants.{Md, St, Ch, Hd, Ce, Fl, Pc, Pm, Rw, Wf, Zz}
 use Rattle.records.specs.declared.decoding.NoMark.{NoMark}
+use Rattle.records.specs.declared.fields.Fields.{Fields}
 use Rattle.records.specs.declared.decoding.NoMark.TheVariants.{Cut, Unknown}
 use Rattle.records.specs.Content.{Content, md, st, ch, hd, ce, fl, pc, pm, rw', wf, zz, mark_of}
 use Rattle.records.specs.Encode.{encode, Fits}
@@ -44,6 +45,11 @@ whole (Pm s c m) = true
 whole (Rw s r) = true
 whole (Wf s h c m es) = length es.now % 5 == 0 && nat_lt (length es.now / 5) 65536
 whole Zz = true
+
+-- n bytes are read, of the value that V says, and it goes on behind them; or there are not so many, and it stays
+abbrev pub Reads : {A : Type 0} → ℕ → (A → Type 0) → Fields → Option A → Fields → Type 0
+Reads n V old None new = (length old.bytes.now < old.at + n) × (new.bytes ≡ old.bytes) × (new.at ≡ old.at)
+Reads n V old (Some x) new = (old.at + n ≤ length old.bytes.now) × V x × (new.bytes ≡ old.bytes) × (new.at ≡ old.at + n)
 
 -- the mark that stands at `at`, or why there is none
 abbrev pub known : Option Mark → Result Mark NoMark

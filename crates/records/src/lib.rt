@@ -4,6 +4,7 @@
 mod content;
 mod decoding;
 mod entries;
+mod fields;
 mod numbers;
 
 pub use content::{BRANCH_SIZE, Branch, Mark, PORTION_SIZE, Portion, Record};

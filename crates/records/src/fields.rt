@@ -1,0 +1,45 @@
+// The fields of a record, one after the other, out of a caller's bytes. Numbers have their highest byte first.
+ghost use Rattle.std.specs.Prelude.{◌≡◌, ◌<◌, ◌+◌, length, take, drop, slice_index};
+ghost use Rattle.records.specs.Decode.{be2, be4, be8};
+ghost use Rattle.records.specs.Held.{Reads};
+
+pub(crate) struct Fields<'a> {
+    pub(crate) bytes: &'a [u8],
+    // Where the next field begins.
+    pub(crate) at: usize,
+}
+
+impl<'a> Fields<'a> {
+    pub(crate) fn take<const N: usize>(&mut self) -> Option<&'a [u8; N]>
+        ensures { Reads N (λ field. field.now ≡ take N (drop self.old.at self.old.bytes.now)) self.old result self.new }
+    {
+        let field = self.bytes.get(self.at..)?.first_chunk()?;
+        self.at += N;
+        Some(field)
+    }
+
+    pub(crate) fn u8(&mut self) -> Option<u8>
+        ensures { Reads 1 (λ n. n ≡ slice_index self.old.bytes.now self.old.at) self.old result self.new }
+    {
+        let [byte] = *self.take::<1>()?;
+        Some(byte)
+    }
+
+    pub(crate) fn u16(&mut self) -> Option<u16>
+        ensures { Reads 2 (λ n. n ≡ be2 self.old.bytes.now self.old.at) self.old result self.new }
+    {
+        self.take().map(|field| u16::from_be_bytes(*field))
+    }
+
+    pub(crate) fn u32(&mut self) -> Option<u32>
+        ensures { Reads 4 (λ n. n ≡ be4 self.old.bytes.now self.old.at) self.old result self.new }
+    {
+        self.take().map(|field| u32::from_be_bytes(*field))
+    }
+
+    pub(crate) fn u64(&mut self) -> Option<u64>
+        ensures { Reads 8 (λ n. n ≡ be8 self.old.bytes.now self.old.at) self.old result self.new }
+    {
+        self.take().map(|field| u64::from_be_bytes(*field))
+    }
+}
