@@ -39,17 +39,17 @@ impl Place {
         ensures { result ≡ allowed self mark }
     {
         match self {
-            Place::HandInDue => mark.is(Mark::Hd),
-            Place::ModelDue => mark.is(Mark::Md),
+            Place::HandInDue => mark == Mark::Hd,
+            Place::ModelDue => mark == Mark::Md,
             Place::Within { kind, last } => {
                 let block = block_of(kind, mark);
-                mark.is(Mark::Zz) || (block >= 1 && last.block() <= block)
+                mark == Mark::Zz || (block >= 1 && last.block() <= block)
             }
             Place::States {
                 states,
                 choices,
                 ..
-            } => mark.is(wanted_mark(states, choices)),
+            } => mark == wanted_mark(states, choices),
             Place::Done => false,
         }
     }

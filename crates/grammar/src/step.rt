@@ -23,7 +23,7 @@ impl Place {
         ensures { result ≡ ascends self (content item.entry) }
     {
         match self {
-            Place::Within { kind, last } => item.mark().is(Mark::Zz)
+            Place::Within { kind, last } => item.mark() == Mark::Zz
                 || last.precedes(Key::of(kind, item)),
             _ => true,
         }

@@ -1,11 +1,11 @@
 // What a record of a file says. Entries stay in the caller's bytes; entries.rt reads them.
 ghost use Rattle.std.specs.Prelude.{◌≡◌, ◌/◌, ◌%◌, ◌<◌, ◌&&◌, length, ◌==◌, nat_lt};
-ghost use Rattle.records.specs.Content.{mark_of, same_mark};
+ghost use Rattle.records.specs.Content.{mark_of};
 ghost use Rattle.records.specs.Decode.{fixed_size};
 ghost use Rattle.records.specs.Held.{content, whole};
 
 // The two letters before a record, which say what it is.
-#[derive(Clone, Copy)]
+#[derive(Clone, Copy, PartialEq, Eq)]
 pub enum Mark {
     Md,
     St,
@@ -100,12 +100,6 @@ pub struct Portion {
 }
 
 impl Mark {
-    pub fn is(self, other: Mark) -> bool
-        ensures { result ≡ same_mark self other }
-    {
-        self as u8 == other as u8
-    }
-
     // How many bytes a record of this mark takes without its entries.
     pub fn fixed_size(self) -> usize
         ensures { result ≡ fixed_size self }

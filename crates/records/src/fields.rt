@@ -1,8 +1,9 @@
 // The fields of a record, one after the other, out of a caller's bytes. Numbers have their highest byte first.
-ghost use Rattle.std.specs.Prelude.{◌≡◌, ◌<◌, ◌+◌, length, take, drop, slice_index};
+ghost use Rattle.std.specs.Prelude.{◌≡◌, ◌<◌, ◌≤◌, ◌+◌, ◌*◌, MatchOption, length, take, drop, slice_index};
 ghost use Rattle.records.specs.Decode.{be2, be4, be8};
 ghost use Rattle.records.specs.Held.{Reads};
 
+#[derive(Clone, Copy)]
 pub(crate) struct Fields<'a> {
     pub(crate) bytes: &'a [u8],
     // Where the next field begins.
@@ -10,6 +11,15 @@ pub(crate) struct Fields<'a> {
 }
 
 impl<'a> Fields<'a> {
+    // Those of the record at `at`: they stand behind its mark.
+    pub(crate) fn behind_mark(bytes: &'a [u8], at: usize) -> Option<Fields<'a>>
+        ensures { MatchOption result (length bytes.now < at + 2) (λ fields. (at + 2 ≤ length bytes.now) × (fields.bytes.now ≡ bytes.now) × (fields.at ≡ at + 2)) }
+    {
+        let mut fields = Fields { bytes, at };
+        let _mark = fields.take::<2>()?;
+        Some(fields)
+    }
+
     pub(crate) fn take<const N: usize>(&mut self) -> Option<&'a [u8; N]>
         ensures { Reads N (λ field. field.now ≡ take N (drop self.old.at self.old.bytes.now)) self.old result self.new }
     {
@@ -41,5 +51,18 @@ impl<'a> Fields<'a> {
         ensures { Reads 8 (λ n. n ≡ be8 self.old.bytes.now self.old.at) self.old result self.new }
     {
         self.take().map(|field| u64::from_be_bytes(*field))
+    }
+
+    // The number of entries of that size, and their bytes.
+    pub(crate) fn entries(&mut self, size: usize) -> Option<&'a [u8]>
+        requires { size < 65536 }
+        ensures { Reads (2 + size * be2 self.old.bytes.now self.old.at) (λ es. es.now ≡ take (size * be2 self.old.bytes.now self.old.at) (drop (self.old.at + 2) self.old.bytes.now)) self.old result self.new }
+    {
+        let mut behind = *self;
+        let len = size * behind.u16()? as usize;
+        let entries = behind.bytes[behind.at..].get(..len)?;
+        behind.at += len;
+        *self = behind;
+        Some(entries)
     }
 }

@@ -5,7 +5,6 @@ mod content;
 mod decoding;
 mod entries;
 mod fields;
-mod numbers;
 
 pub use content::{BRANCH_SIZE, Branch, Mark, PORTION_SIZE, Portion, Record};
 pub use decoding::{NoMark, decode, mark_at};
