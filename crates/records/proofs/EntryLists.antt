@@ -5,13 +5,9 @@ use Rattle.std.specs.List.{flat_map}
 use Rattle.std.proofs.lemmas.List.{get_or-take, get_or-drop, length-take, length-drop, length-append, drop-drop}
 use Rattle.std.proofs.Math.Nat.{mul-div_cancel_left, mul-mod_right}
 use Rattle.std.specs.Simd.{first_chunks}
+use Rattle.records.specs.Encode.{Each}
 use Rattle.records.specs.Decode.{entries_from, branch_from, branches_from, portion_from, portions_from}
 use Rattle.records.proofs.Digits.{get_or_past, be2_past}
-
--- what holds of each
-abbrev pub Each : {E : Type 0} → (E → Type 0) → List E → Type 0
-Each P [] = Unit {0}
-Each P (e ∷ es) = P e × Each P es
 
 module _ {E : Type 0} (w : ℕ) (one : List ℕ → ℕ → E) where
   pub length-entries : (n : ℕ) (xs : List ℕ) (i : ℕ) → length (entries_from w one n xs i) ≡ n

@@ -15,14 +15,14 @@ pub trait Entry<const N: usize>: Copy {
     fn from_bytes(bytes: &[u8; N]) -> Self
         ensures { result ≡ of_bytes bytes.now };
 
-    // An array of N bytes is not too large to be lent.
-    ghost fits: { N < 2 ^ 63 };
+    // There is an end to them, and N bytes are not too many to be lent.
+    ghost sized: { (0 < N) × (N < 2 ^ 63) };
 }
 
 impl Entry<BRANCH_SIZE> for Branch {
     ghost of_bytes = { λ bytes. branch_from bytes 0 };
 
-    ghost fits = { Prim.search rules };
+    ghost sized = { Prim.search rules };
 
     fn from_bytes(bytes: &[u8; BRANCH_SIZE]) -> Branch
         ensures { result ≡ branch_from bytes.now 0 }
@@ -38,7 +38,7 @@ impl Entry<BRANCH_SIZE> for Branch {
 impl Entry<PORTION_SIZE> for Portion {
     ghost of_bytes = { λ bytes. portion_from bytes 0 };
 
-    ghost fits = { Prim.search rules };
+    ghost sized = { Prim.search rules };
 
     fn from_bytes(bytes: &[u8; PORTION_SIZE]) -> Portion
         ensures { result ≡ portion_from bytes.now 0 }
@@ -92,15 +92,28 @@ impl<'a, E: Entry<N>, const N: usize> ExactSizeIterator for Entries<'a, E, N> {
     }
 }
 
+impl<'a, E: Entry<N>, const N: usize> Entries<'a, E, N> {
+    ghost use Rattle.std.specs.Prelude.{◌≡◌, ◌/◌, length, map};
+    ghost use Rattle.std.specs.Simd.{first_chunks};
+
+    fn of(bytes: &'a [u8]) -> Entries<'a, E, N>
+        ensures value { result ≡ map E.of_bytes (first_chunks N (length bytes.now / N) bytes.now) }
+        ensures len { length result ≡ length bytes.now / N }
+    {
+        let (chunks, _) = bytes.as_chunks();
+        Entries {
+            chunks,
+            of: PhantomData,
+        }
+    }
+}
+
 // The branches of a CH. Bytes behind the last whole one count for nothing.
 pub fn branches(entries: &[u8]) -> Entries<'_, Branch, BRANCH_SIZE>
     ensures value { result ≡ branches entries.now }
     ensures len { length result ≡ length entries.now / BRANCH_SIZE }
 {
-    Entries {
-        chunks: entries.as_chunks().0,
-        of: PhantomData,
-    }
+    Entries::<Branch, BRANCH_SIZE>::of(entries)
 }
 
 // The portions of a WF, likewise.
@@ -108,8 +121,5 @@ pub fn portions(entries: &[u8]) -> Entries<'_, Portion, PORTION_SIZE>
     ensures value { result ≡ portions entries.now }
     ensures len { length result ≡ length entries.now / PORTION_SIZE }
 {
-    Entries {
-        chunks: entries.as_chunks().0,
-        of: PhantomData,
-    }
+    Entries::<Portion, PORTION_SIZE>::of(entries)
 }
