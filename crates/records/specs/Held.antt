@@ -1,5 +1,6 @@
 -- What the code's values stand for.
-use Rattle.std.specs.Prelude.{◌≡◌, ℕ, ◌+◌, ◌/◌, ◌%◌, ◌<◌, ◌≤◌, Bool, true, cond, ◌&&◌, List, ◌++◌, length, drop, Some, None, Ok, Err, Option, Result, ◌==◌, ◌≢◌, nat_lt, slice_index}
+use Rattle.std.specs.Prelude.{◌≡◌, ℕ, ◌+◌, ◌*◌, ◌/◌, ◌%◌, ◌<◌, ◌≤◌, Bool, true, cond, ◌&&◌, List, ◌++◌, length, take, drop, Some, None, Ok, Err, Option, Result, ◌==◌, ◌≢◌, nat_lt, slice_index}
+use Rattle.std.specs.Borrow.{Bor}
 use Rattle.records.specs.declared.content.Branch.{Branch}
 use Rattle.records.specs.declared.content.Portion.{Portion}
 use Rattle.records.specs.declared.content.Mark.{Mark}
@@ -10,7 +11,7 @@ use Rattle.records.specs.declared.fields.Fields.{Fields}
 use Rattle.records.specs.declared.decoding.NoMark.TheVariants.{Cut, Unknown}
 use Rattle.records.specs.Content.{Content, md, st, ch, hd, ce, fl, pc, pm, rw', wf, zz, mark_of}
 use Rattle.records.specs.Encode.{encode, Fits}
-use Rattle.records.specs.Decode.{branches_from, portions_from, mark_spelled, size, decoded}
+use Rattle.records.specs.Decode.{be2, branches_from, portions_from, mark_spelled, size, decoded}
 
 -- the whole entries in their bytes, 4 or 5 each
 abbrev pub branches : List ℕ → List Branch
@@ -50,6 +51,12 @@ whole Zz = true
 abbrev pub Reads : {A : Type 0} → ℕ → (A → Type 0) → Fields → Option A → Fields → Type 0
 Reads n V old None new = (length old.bytes.now < old.at + n) × (new.bytes ≡ old.bytes) × (new.at ≡ old.at)
 Reads n V old (Some x) new = (old.at + n ≤ length old.bytes.now) × V x × (new.bytes ≡ old.bytes) × (new.at ≡ old.at + n)
+
+-- a number of entries of that size is read, and their bytes
+abbrev pub ReadsEntries : ℕ → Fields → Option (Bor (List ℕ)) → Fields → Type 0
+ReadsEntries size old found new =
+    let bytes = size * be2 old.bytes.now old.at in
+    Reads (2 + bytes) (λ entries. entries.now ≡ take bytes (drop (old.at + 2) old.bytes.now)) old found new
 
 -- the mark that stands at `at`, or why there is none
 abbrev pub known : Option Mark → Result Mark NoMark

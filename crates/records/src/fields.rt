@@ -1,7 +1,7 @@
 // The fields of a record, one after the other, out of a caller's bytes. Numbers have their highest byte first.
-ghost use Rattle.std.specs.Prelude.{◌≡◌, ◌<◌, ◌≤◌, ◌+◌, ◌*◌, MatchOption, length, take, drop, slice_index};
+ghost use Rattle.std.specs.Prelude.{◌≡◌, ◌↔◌, ◌<◌, ◌≤◌, ◌+◌, IsSome, IfSome, length, take, drop, slice_index};
 ghost use Rattle.records.specs.Decode.{be2, be4, be8};
-ghost use Rattle.records.specs.Held.{Reads};
+ghost use Rattle.records.specs.Held.{Reads, ReadsEntries};
 
 #[derive(Clone, Copy)]
 pub(crate) struct Fields<'a> {
@@ -13,7 +13,8 @@ pub(crate) struct Fields<'a> {
 impl<'a> Fields<'a> {
     // Those of the record at `at`: they stand behind its mark.
     pub(crate) fn behind_mark(bytes: &'a [u8], at: usize) -> Option<Fields<'a>>
-        ensures { MatchOption result (length bytes.now < at + 2) (λ fields. (at + 2 ≤ length bytes.now) × (fields.bytes.now ≡ bytes.now) × (fields.at ≡ at + 2)) }
+        ensures there { IsSome result ↔ (at + 2 ≤ length bytes.now) }
+        ensures fields { IfSome result (λ fields. (fields.bytes.now ≡ bytes.now) × (fields.at ≡ at + 2)) }
     {
         let mut fields = Fields { bytes, at };
         let _mark = fields.take::<2>()?;
@@ -56,7 +57,7 @@ impl<'a> Fields<'a> {
     // The number of entries of that size, and their bytes.
     pub(crate) fn entries(&mut self, size: usize) -> Option<&'a [u8]>
         requires { size < 65536 }
-        ensures { Reads (2 + size * be2 self.old.bytes.now self.old.at) (λ es. es.now ≡ take (size * be2 self.old.bytes.now self.old.at) (drop (self.old.at + 2) self.old.bytes.now)) self.old result self.new }
+        ensures { ReadsEntries size self.old result self.new }
     {
         let mut behind = *self;
         let len = size * behind.u16()? as usize;
