@@ -108,3 +108,9 @@ length-branches n xs i = length-entries 4 branch_from n xs i
 
 pub length-portions : (n : ℕ) (xs : List ℕ) (i : ℕ) → length (portions_from n xs i) ≡ n
 length-portions n xs i = length-entries 5 portion_from n xs i
+
+pub branches_of_chunks : (n : ℕ) (xs : List ℕ) → map (λ b. branch_from b 0) (first_chunks 4 n xs) ≡ branches_from n xs 0
+branches_of_chunks n xs = entries_of_chunks 4 branch_from branch_inside n xs 0
+
+pub portions_of_chunks : (n : ℕ) (xs : List ℕ) → map (λ b. portion_from b 0) (first_chunks 5 n xs) ≡ portions_from n xs 0
+portions_of_chunks n xs = entries_of_chunks 5 portion_from portion_inside n xs 0

@@ -109,6 +109,7 @@ impl<'a, E: Entry<N>, const N: usize> Entries<'a, E, N> {
 }
 
 // The branches of a CH. Bytes behind the last whole one count for nothing.
+#[tactic(auto, using(crate::proofs::EntryLists::branches_of_chunks))]
 pub fn branches(entries: &[u8]) -> Entries<'_, Branch, BRANCH_SIZE>
     ensures value { result ≡ branches entries.now }
     ensures len { length result ≡ length entries.now / BRANCH_SIZE }
@@ -117,6 +118,7 @@ pub fn branches(entries: &[u8]) -> Entries<'_, Branch, BRANCH_SIZE>
 }
 
 // The portions of a WF, likewise.
+#[tactic(auto, using(crate::proofs::EntryLists::portions_of_chunks))]
 pub fn portions(entries: &[u8]) -> Entries<'_, Portion, PORTION_SIZE>
     ensures value { result ≡ portions entries.now }
     ensures len { length result ≡ length entries.now / PORTION_SIZE }
