@@ -2,25 +2,18 @@
 #![tactic(auto)]
 
 use reader::{ReadFault, Reader};
-use records::{Mark, Record, branch_at, mark_at, portion_at};
+use records::{Branch, Mark, Portion, Record, branches, mark_at, portions};
 use std::io;
 use std::io::Read;
 
 // The numbers of the state and of the choice that come next in a model file.
-#[derive(Clone, Copy)]
+#[derive(Clone, Copy, Default)]
 struct Count {
     state: usize,
     choice: usize,
 }
 
 impl Count {
-    fn start() -> Count {
-        Count {
-            state: 0,
-            choice: 0,
-        }
-    }
-
     fn after(self, item: Record<'_>) -> Count {
         match item {
             Record::St { .. } => Count {
@@ -37,24 +30,19 @@ impl Count {
 }
 
 fn print_branches(rt: &impl Print, entries: &[u8]) -> io::Result<()> {
-    for i in 0..entries.len() / 4 {
-        if let Some(branch) = branch_at(entries, i) {
-            let target = branch.target;
-            let weight = branch.weight;
-            println!(rt; "         to {target}: weight {weight}")?;
-        }
+    for Branch { target, weight } in branches(entries) {
+        println!(rt; "         to {target}: weight {weight}")?;
     }
     Ok(())
 }
 
 fn print_portions(rt: &impl Print, entries: &[u8]) -> io::Result<()> {
-    for i in 0..entries.len() / 5 {
-        if let Some(portion) = portion_at(entries, i) {
-            let target = portion.target;
-            let high = portion.high;
-            let amount = portion.amount;
-            println!(rt; "         to {target} and high {high}: amount {amount}")?;
-        }
+    for Portion {
+        target,
+        high,
+        amount,
+    } in portions(entries) {
+        println!(rt; "         to {target} and high {high}: amount {amount}")?;
     }
     Ok(())
 }
@@ -64,14 +52,13 @@ fn print_row(rt: &impl Print, offset: usize, state: u16, row: u64) -> io::Result
         return println!(rt; "{offset:>6} RW state {state}: related to nothing");
     }
     print!(rt; "{offset:>6} RW state {state}: related to")?;
-    for t in 0..64u32 {
-        if (row >> t) & 1 == 1 {
-            print!(rt; " {t}")?;
-        }
+    for t in (0..64u32).filter(|t| (row >> *t) & 1 == 1) {
+        print!(rt; " {t}")?;
     }
     println!(rt; "")
 }
 
+// The numbers are the file's: an enum between a number and its word would be one more table.
 fn kind_word(kind: u8) -> &'static str {
     match kind {
         1 => "ceilings",
@@ -109,7 +96,7 @@ fn print_model_record(
             println!(rt; "{offset:>6} ST state {state}: {mark}, choices {choices}")
         }
         Record::Ch { entries } => {
-            let targets = entries.len() / 4;
+            let targets = branches(entries).len();
             println!(rt; "{offset:>6} CH state {last}, choice {choice}: targets {targets}")?;
             print_branches(rt, entries)
         }
@@ -134,7 +121,7 @@ fn print_link_record(rt: &impl Print, offset: usize, item: Record<'_>) -> io::Re
             matched,
             entries,
         } => {
-            let count = entries.len() / 5;
+            let count = portions(entries).len();
             println!(rt;
                 "{offset:>6} WF state {state}, high state {high}, choice {choice}: match {matched}, entries {count}"
             )?;
@@ -163,7 +150,7 @@ fn print_record(rt: &impl Print, offset: usize, item: Record<'_>, count: Count) 
 
 // Prints the records up to the end of the unit or its fault, and answers which.
 fn print_records(rt: &impl Print, mut reader: Reader<'_>) -> io::Result<Result<usize, ReadFault>> {
-    let mut count = Count::start();
+    let mut count = Count::default();
     loop {
         match reader.next() {
             Ok(Some((offset, item))) => {

@@ -1,10 +1,9 @@
 -- The rows of a record, at their place in the tables.
-use Rattle.std.proofs.Common.{◌≡◌, ℕ, ◌/◌, ◌<◌, eqb, List, length, set, sym, refl, ap, arith, Bor}
+use Rattle.std.proofs.Common.{◌≡◌, ℕ, ◌<◌, eqb, List, length, set, refl, ap, arith, Bor}
 use Rattle.records.specs.declared.content.Branch.{Branch}
 use Rattle.records.specs.declared.content.Record.{Record}
 use Rattle.records.specs.declared.content.Record.TheVariants.{St, Ch}
 use Rattle.records.specs.Held.{content, branches}
-use Rattle.records.proofs.EntryLists.{length-branches}
 use Rattle.tables.specs.declared.rows.StateRow.{StateRow}
 use Rattle.tables.specs.declared.rows.ChoiceRow.{ChoiceRow}
 use Rattle.tables.specs.declared.rows.Filled.{Filled}
@@ -43,8 +42,7 @@ module _ (k : Filled) (item : Record) (was : Tables) (room : RoomFor (tally k (g
   state_placed g n e = rw e (state_put k g n was (omega (arith, ap (λ (r : Record). (tally k (given (content r))).states) e, room.states)))
 
   pub choice_placed :
-      (entries : Bor (List ℕ)) (last : List Branch) → item ≡ Ch entries → last ≡ laid was.branches k.branches (branches entries.now)
-      → Placed k (given (content item)) was (tables was.states (set was.choices k.choices (row_of_choice k (length entries.now / 4))) last)
-  choice_placed entries last e l =
-      let size = length-branches (length entries.now / 4) entries.now 0 in
-      rw (e, l) (choice_put k (branches entries.now) (length entries.now / 4) was (sym size) (omega (arith, ap (λ (r : Record). (tally k (given (content r))).choices) e, room.choices)))
+      (entries : Bor (List ℕ)) (n : ℕ) (last : List Branch) → item ≡ Ch entries → n ≡ length (branches entries.now) → last ≡ laid was.branches k.branches (branches entries.now)
+      → Placed k (given (content item)) was (tables was.states (set was.choices k.choices (row_of_choice k n)) last)
+  choice_placed entries n last e size l =
+      rw (e, l) (choice_put k (branches entries.now) n was size (omega (arith, ap (λ (r : Record). (tally k (given (content r))).choices) e, room.choices)))

@@ -5,7 +5,7 @@ ghost use Rattle.filling.specs.Giving.{given};
 ghost use Rattle.filling.specs.Counted.{tally, CountsFit, Counted};
 
 use reader::{ReadFault, Reader};
-use records::Record;
+use records::{Record, branches};
 use tables::Filled;
 
 // The counts with a record more.
@@ -24,7 +24,7 @@ pub(crate) fn tally(counts: Filled, item: Record<'_>) -> Filled
         },
         Record::Ch { entries } => Filled {
             choices: counts.choices + 1,
-            branches: counts.branches + entries.len() / 4,
+            branches: counts.branches + branches(entries).len(),
             ..counts
         },
         _ => counts,

@@ -10,7 +10,7 @@ use crate::counting::{count, tally};
 use crate::fault::FillFault;
 use crate::placing::put_branches;
 use reader::Reader;
-use records::{Branch, Record};
+use records::{Branch, Record, branches};
 use tables::{ChoiceRow, Filled, StateRow};
 
 // The three tables that a caller lends.
@@ -75,7 +75,7 @@ impl Tables<'_> {
             Record::Ch { entries } => {
                 self.choices[filled.choices] = ChoiceRow {
                     first: filled.branches,
-                    branches: entries.len() / 4,
+                    branches: branches(entries).len(),
                 };
                 put_branches(self.branches, filled.branches, entries);
             }

@@ -3,16 +3,14 @@ ghost use Rattle.std.specs.Prelude.{◌≡◌, ◌+◌, ◌≤◌, length};
 ghost use Rattle.records.specs.Held.{branches as branches_in};
 ghost use Rattle.filling.specs.Placed.{laid};
 
-use records::{Branch, branch_at};
+use records::{Branch, branches};
 
 // The branches of a choice, from the first place on.
 pub(crate) fn put_branches(table: &mut [Branch], first: usize, entries: &[u8])
     requires { first + length (branches_in entries.now) ≤ length table.old }
     ensures { table.new ≡ laid table.old first (branches_in entries.now) }
 {
-    let mut i = 0;
-    while let Some(branch) = branch_at(entries, i) {
+    for (i, branch) in branches(entries).enumerate() {
         table[first + i] = branch;
-        i += 1;
     }
 }

@@ -60,15 +60,15 @@ impl Place {
         ensures { result ≡ allowed self mark }
     {
         match self {
-            Place::HandInDue => mark.is(Mark::Hd),
-            Place::ModelDue => mark.is(Mark::Md),
-            Place::Within { kind, last } => mark.is(Mark::Zz)
+            Place::HandInDue => mark == Mark::Hd,
+            Place::ModelDue => mark == Mark::Md,
+            Place::Within { kind, last } => mark == Mark::Zz
                 || kind.block(mark).is_some_and(|block| last.block <= block),
             Place::States {
                 states,
                 choices,
                 ..
-            } => mark.is(wanted_mark(states, choices)),
+            } => mark == wanted_mark(states, choices),
             Place::Done => false,
         }
     }

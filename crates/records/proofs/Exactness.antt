@@ -9,8 +9,8 @@ use Rattle.records.specs.declared.content.Mark.{Mark}
 use Rattle.records.specs.declared.content.Mark.TheVariants.{Md, St, Ch, Hd, Ce, Fl, Pc, Pm, Rw, Wf, Zz}
 use Rattle.records.specs.declared.decoding.NoMark.TheVariants.{Cut}
 use Rattle.records.specs.Content.{mark_of}
-use Rattle.records.specs.Encode.{encode, Fits, two, four, eight, first_letter, second_letter, branch_bytes, portion_bytes, BranchesFit, PortionsFit}
-use Rattle.records.specs.Decode.{be2, be4, be8, branch_from, branches_from, portion_from, portions_from, mark_spelled, size, decoded}
+use Rattle.records.specs.Encode.{encode, Fits, two, four, eight, first_letter, second_letter, branch_bytes, portion_bytes, Each, BranchFits, PortionFits}
+use Rattle.records.specs.Decode.{be2, be4, be8, entries_from, branch_from, branches_from, portion_from, portions_from, mark_spelled, size, decoded}
 use Rattle.records.specs.Held.{known, mark_at}
 use Rattle.records.proofs.Digits.{gets, front, two_at, four_at, eight_at, be2_below, be4_below}
 use Rattle.records.proofs.EntryLists.{entries_again, length-branches, length-portions}
@@ -64,13 +64,15 @@ pub portion_width : (p : Portion) → length (portion_bytes p) ≡ 5
 portion_width p = refl
 
 module _ (xs : List ℕ) (f : (j : ℕ) → get_or xs j 0 < 256) where
-  pub branches_fit : (n i : ℕ) → BranchesFit (branches_from n xs i)
-  branches_fit zero i = tt
-  branches_fit (suc n) i = (be2_below xs f i, be2_below xs f (i + 2), branches_fit n (i + 4))
+  entries_fit : {E : Type 0} (w : ℕ) (one : List ℕ → ℕ → E) (P : E → Type 0) → ((i : ℕ) → P (one xs i)) → (n i : ℕ) → Each P (entries_from w one n xs i)
+  entries_fit w one P fits zero i = tt
+  entries_fit w one P fits (suc n) i = (fits i, entries_fit w one P fits n (i + w))
 
-  pub portions_fit : (n i : ℕ) → PortionsFit (portions_from n xs i)
-  portions_fit zero i = tt
-  portions_fit (suc n) i = (be2_below xs f i, f (i + 2), be2_below xs f (i + 3), portions_fit n (i + 5))
+  pub branches_fit : (n i : ℕ) → Each BranchFits (branches_from n xs i)
+  branches_fit = entries_fit 4 branch_from BranchFits (λ i. (be2_below xs f i, be2_below xs f (i + 2)))
+
+  pub portions_fit : (n i : ℕ) → Each PortionFits (portions_from n xs i)
+  portions_fit = entries_fit 5 portion_from PortionFits (λ i. (be2_below xs f i, f (i + 2), be2_below xs f (i + 3)))
 
   pub decoded_fits : (m : Mark) (at : ℕ) → Fits (decoded m xs at)
   decoded_fits Md at = (be2_below xs f (at + 2), be2_below xs f (at + 4))

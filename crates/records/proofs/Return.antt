@@ -1,30 +1,16 @@
 -- What is encoded is decoded again.
-use Rattle.std.proofs.Common.{◌≡◌, ℕ, ◌+◌, ◌*◌, ◌<◌, ◌≤◌, ltb, List, [], ◌∷◌, ◌++◌, length, get_or, Some, Ok, refl, ap, ◌∙◌, arith}
+use Rattle.std.proofs.Common.{◌≡◌, ℕ, ◌+◌, ◌*◌, ◌≤◌, ltb, List, ◌∷◌, ◌++◌, length, get_or, Some, Ok, refl, ap, ◌∙◌, arith}
 use Rattle.std.specs.List.{flat_map}
 use Rattle.std.proofs.lemmas.Bool.{le-ltb, cond-false}
 use Rattle.std.proofs.lemmas.List.{length-append}
 use Rattle.records.specs.declared.content.Branch.{Branch}
 use Rattle.records.specs.declared.content.Portion.{Portion}
 use Rattle.records.specs.Content.{Content, md, st, ch, hd, ce, fl, pc, pm, rw', wf, zz, mark_of}
-use Rattle.records.specs.Encode.{encode, Fits, two, branch_bytes, portion_bytes, BranchesFit, PortionsFit}
+use Rattle.records.specs.Encode.{encode, Fits, two, branch_bytes, portion_bytes, BranchFits, PortionFits}
 use Rattle.records.specs.Decode.{be2, be4, be8, branch_from, branches_from, portion_from, portions_from, mark_spelled, size, decoded}
 use Rattle.records.specs.Held.{known, mark_at}
 use Rattle.records.proofs.Digits.{get_or_past, get_or_first, be2_past, be4_past, be8_past, two_back, four_back, eight_back}
-use Rattle.records.proofs.EntryLists.{Each, entries_past, entries_back, length-flat_map, branch_past, portion_past}
-
-abbrev BranchFits : Branch → Type 0
-BranchFits b = (b.target < 65536) × (b.weight < 65536)
-
-abbrev PortionFits : Portion → Type 0
-PortionFits p = (p.target < 65536) × (p.high < 256) × (p.amount < 65536)
-
-each_branch : (bs : List Branch) → BranchesFit bs → Each BranchFits bs
-each_branch [] f = tt
-each_branch (b ∷ bs) f = ((f.0, f.1), each_branch bs f.2)
-
-each_portion : (ps : List Portion) → PortionsFit ps → Each PortionFits ps
-each_portion [] f = tt
-each_portion (p ∷ ps) f = ((f.0, f.1, f.2), each_portion ps f.3)
+use Rattle.records.proofs.EntryLists.{entries_past, entries_back, length-flat_map, branch_past, portion_past}
 
 branch_back : (b : Branch) (rest : List ℕ) → BranchFits b → branch_from (branch_bytes b ++ rest) 0 ≡ b
 branch_back b rest f = rw (two_back b.target f.0, two_back b.weight f.1) refl
@@ -52,7 +38,7 @@ decoded_back (ch es) pre rest f =
     let k : be2 xs (at + 2) ≡ length es = be2_past pre ys 2 ∙ two_back (length es) f.0 in
     ap (λ n. ch (branches_from n xs (at + 4))) k
     ∙ ap ch (entries_past 4 branch_from branch_past (length es) pre ys 4 ∙ entries_past 4 branch_from branch_past (length es) top (flat_map branch_bytes es ++ rest) 0
-    ∙ entries_back 4 branch_from branch_bytes (λ b. refl) BranchFits branch_past branch_back es rest (each_branch es f.1))
+    ∙ entries_back 4 branch_from branch_bytes (λ b. refl) BranchFits branch_past branch_back es rest f.1)
 decoded_back (hd k s) pre rest f = let ys = encode (hd k s) ++ rest in
     ap (λ a. hd a (get_or (pre ++ ys) (length pre + 3) 0)) (get_or_past pre ys 2) ∙ ap (hd k) (get_or_past pre ys 3)
 decoded_back (ce s c) pre rest f = let ys = encode (ce s c) ++ rest in
@@ -74,7 +60,7 @@ decoded_back (wf s h c m es) pre rest f =
     let k : be2 xs (at + 9) ≡ length es = be2_past pre ys 9 ∙ two_back (length es) f.4 in
     let e : portions_from (be2 xs (at + 9)) xs (at + 11) ≡ es =
     ap (λ n. portions_from n xs (at + 11)) k ∙ entries_past 5 portion_from portion_past (length es) pre ys 11 ∙ entries_past 5 portion_from portion_past (length es) top (flat_map portion_bytes es ++ rest) 0
-    ∙ entries_back 5 portion_from portion_bytes (λ p. refl) PortionFits portion_past portion_back es rest (each_portion es f.5) in
+    ∙ entries_back 5 portion_from portion_bytes (λ p. refl) PortionFits portion_past portion_back es rest f.5 in
     ap (λ a. wf a (get_or xs (at + 4) 0) (be2 xs (at + 5)) (be2 xs (at + 7)) (portions_from (be2 xs (at + 9)) xs (at + 11))) (be2_past pre ys 2 ∙ two_back s f.0)
     ∙ ap (λ a. wf s a (be2 xs (at + 5)) (be2 xs (at + 7)) (portions_from (be2 xs (at + 9)) xs (at + 11))) (get_or_past pre ys 4)
     ∙ ap (λ a. wf s h a (be2 xs (at + 7)) (portions_from (be2 xs (at + 9)) xs (at + 11))) (be2_past pre ys 5 ∙ two_back c f.2)

@@ -69,24 +69,27 @@ field_bytes zz = []
 abbrev pub encode : Content → List ℕ
 encode r = first_letter (mark_of r) ∷ second_letter (mark_of r) ∷ field_bytes r
 
--- each number fits the bytes that it is written in
-abbrev pub BranchesFit : List Branch → Type 0
-BranchesFit [] = Unit {0}
-BranchesFit (b ∷ bs) = (b.target < 65536) × (b.weight < 65536) × BranchesFit bs
+-- what holds of each in a list
+abbrev pub Each : {E : Type 0} → (E → Type 0) → List E → Type 0
+Each P [] = Unit {0}
+Each P (e ∷ es) = P e × Each P es
 
-abbrev pub PortionsFit : List Portion → Type 0
-PortionsFit [] = Unit {0}
-PortionsFit (p ∷ ps) = (p.target < 65536) × (p.high < 256) × (p.amount < 65536) × PortionsFit ps
+-- each number fits the bytes that it is written in
+abbrev pub BranchFits : Branch → Type 0
+BranchFits b = (b.target < 65536) × (b.weight < 65536)
+
+abbrev pub PortionFits : Portion → Type 0
+PortionFits p = (p.target < 65536) × (p.high < 256) × (p.amount < 65536)
 
 abbrev pub Fits : Content → Type 0
 Fits (md n d) = (n < 65536) × (d < 65536)
 Fits (st g k) = (g < 256) × (k < 65536)
-Fits (ch es) = (length es < 65536) × BranchesFit es
+Fits (ch es) = (length es < 65536) × Each BranchFits es
 Fits (hd k s) = (k < 256) × (s < 256)
 Fits (ce s c) = (s < 65536) × (c < 4294967296)
 Fits (fl s c) = (s < 65536) × (c < 4294967296)
 Fits (pc s c) = (s < 65536) × (c < 256)
 Fits (pm s c m) = (s < 65536) × (c < 65536) × (m < 65536)
 Fits (rw' s r) = (s < 65536) × (r < 18446744073709551616)
-Fits (wf s h c m es) = (s < 65536) × (h < 256) × (c < 65536) × (m < 65536) × (length es < 65536) × PortionsFit es
+Fits (wf s h c m es) = (s < 65536) × (h < 256) × (c < 65536) × (m < 65536) × (length es < 65536) × Each PortionFits es
 Fits zz = Unit {0}

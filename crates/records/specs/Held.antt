@@ -1,16 +1,17 @@
 -- What the code's values stand for.
-use Rattle.std.specs.Prelude.{◌≡◌, ℕ, ◌+◌, ◌/◌, ◌%◌, ◌<◌, ◌≤◌, Bool, true, cond, ◌&&◌, List, ◌++◌, length, drop, Some, None, Ok, Err, Option, Result, ◌==◌, ◌≢◌, nat_lt, slice_index}
-use Rattle.std.specs.List.{slice_get}
+use Rattle.std.specs.Prelude.{◌≡◌, ℕ, ◌+◌, ◌*◌, ◌/◌, ◌%◌, ◌<◌, ◌≤◌, Bool, true, cond, ◌&&◌, List, ◌++◌, length, take, drop, Some, None, Ok, Err, Option, Result, ◌==◌, ◌≢◌, nat_lt, slice_index}
+use Rattle.std.specs.Borrow.{Bor}
 use Rattle.records.specs.declared.content.Branch.{Branch}
 use Rattle.records.specs.declared.content.Portion.{Portion}
 use Rattle.records.specs.declared.content.Mark.{Mark}
 use Rattle.records.specs.declared.content.Record.{Record}
 use Rattle.records.specs.declared.content.Record.TheVariants.{Md, St, Ch, Hd, Ce, Fl, Pc, Pm, Rw, Wf, Zz}
 use Rattle.records.specs.declared.decoding.NoMark.{NoMark}
+use Rattle.records.specs.declared.fields.Fields.{Fields}
 use Rattle.records.specs.declared.decoding.NoMark.TheVariants.{Cut, Unknown}
 use Rattle.records.specs.Content.{Content, md, st, ch, hd, ce, fl, pc, pm, rw', wf, zz, mark_of}
 use Rattle.records.specs.Encode.{encode, Fits}
-use Rattle.records.specs.Decode.{branch_from, branches_from, portion_from, portions_from, mark_spelled, size, decoded}
+use Rattle.records.specs.Decode.{be2, branches_from, portions_from, mark_spelled, size, decoded}
 
 -- the whole entries in their bytes, 4 or 5 each
 abbrev pub branches : List ℕ → List Branch
@@ -46,14 +47,16 @@ whole (Rw s r) = true
 whole (Wf s h c m es) = length es.now % 5 == 0 && nat_lt (length es.now / 5) 65536
 whole Zz = true
 
--- the i-th entry is the one whose bytes stand at an offset, or there is none
-abbrev pub BranchStands : List ℕ → ℕ → Option ℕ → Type 0
-BranchStands xs i None = None ≡ slice_get (branches xs) i
-BranchStands xs i (Some at) = (at + 4 ≤ length xs) × (Some (branch_from xs at) ≡ slice_get (branches xs) i)
+-- n bytes are read, of the value that V says, and it goes on behind them; or there are not so many, and it stays
+abbrev pub Reads : {A : Type 0} → ℕ → (A → Type 0) → Fields → Option A → Fields → Type 0
+Reads n V old None new = (length old.bytes.now < old.at + n) × (new.bytes ≡ old.bytes) × (new.at ≡ old.at)
+Reads n V old (Some x) new = (old.at + n ≤ length old.bytes.now) × V x × (new.bytes ≡ old.bytes) × (new.at ≡ old.at + n)
 
-abbrev pub PortionStands : List ℕ → ℕ → Option ℕ → Type 0
-PortionStands xs i None = None ≡ slice_get (portions xs) i
-PortionStands xs i (Some at) = (at + 5 ≤ length xs) × (Some (portion_from xs at) ≡ slice_get (portions xs) i)
+-- a number of entries of that size is read, and their bytes
+abbrev pub ReadsEntries : ℕ → Fields → Option (Bor (List ℕ)) → Fields → Type 0
+ReadsEntries size old found new =
+    let bytes = size * be2 old.bytes.now old.at in
+    Reads (2 + bytes) (λ entries. entries.now ≡ take bytes (drop (old.at + 2) old.bytes.now)) old found new
 
 -- the mark that stands at `at`, or why there is none
 abbrev pub known : Option Mark → Result Mark NoMark

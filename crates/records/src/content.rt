@@ -1,11 +1,11 @@
 // What a record of a file says. Entries stay in the caller's bytes; entries.rt reads them.
 ghost use Rattle.std.specs.Prelude.{◌≡◌, ◌/◌, ◌%◌, ◌<◌, ◌&&◌, length, ◌==◌, nat_lt};
-ghost use Rattle.records.specs.Content.{mark_of, same_mark};
+ghost use Rattle.records.specs.Content.{mark_of};
 ghost use Rattle.records.specs.Decode.{fixed_size};
 ghost use Rattle.records.specs.Held.{content, whole};
 
 // The two letters before a record, which say what it is.
-#[derive(Clone, Copy)]
+#[derive(Clone, Copy, PartialEq, Eq)]
 pub enum Mark {
     Md,
     St,
@@ -79,6 +79,11 @@ pub enum Record<'a> {
     Zz,
 }
 
+// How many bytes a branch and a portion take.
+pub const BRANCH_SIZE: usize = 4;
+
+pub const PORTION_SIZE: usize = 5;
+
 // An entry of a CH: what the choice gives to a target.
 #[derive(Clone, Copy)]
 pub struct Branch {
@@ -95,12 +100,6 @@ pub struct Portion {
 }
 
 impl Mark {
-    pub fn is(self, other: Mark) -> bool
-        ensures { result ≡ same_mark self other }
-    {
-        self as u8 == other as u8
-    }
-
     // How many bytes a record of this mark takes without its entries.
     pub fn fixed_size(self) -> usize
         ensures { result ≡ fixed_size self }
@@ -141,12 +140,12 @@ impl Record<'_> {
     }
 }
 
-// Whether entries of `width` bytes each are whole, and few enough to be counted in two bytes.
-fn entries_whole(entries: &[u8], width: usize) -> bool
-    requires { 0 < width }
-    ensures { result ≡ (length entries.now % width == 0 && nat_lt (length entries.now / width) 65536) }
+// Whether entries of `size` bytes each are whole, and few enough to be counted in two bytes.
+fn entries_whole(entries: &[u8], size: usize) -> bool
+    requires { 0 < size }
+    ensures { result ≡ (length entries.now % size == 0 && nat_lt (length entries.now / size) 65536) }
 {
-    entries.len() % width == 0 && entries.len() / width < 65536
+    entries.len() % size == 0 && entries.len() / size < 65536
 }
 
 impl Record<'_> {
@@ -155,8 +154,8 @@ impl Record<'_> {
         ensures { result ≡ whole self.entry }
     {
         match self {
-            Record::Ch { entries } => entries_whole(entries, 4),
-            Record::Wf { entries, .. } => entries_whole(entries, 5),
+            Record::Ch { entries } => entries_whole(entries, BRANCH_SIZE),
+            Record::Wf { entries, .. } => entries_whole(entries, PORTION_SIZE),
             _ => true,
         }
     }

@@ -4,8 +4,8 @@
 mod content;
 mod decoding;
 mod entries;
-mod numbers;
+mod fields;
 
-pub use content::{Branch, Mark, Portion, Record};
+pub use content::{BRANCH_SIZE, Branch, Mark, PORTION_SIZE, Portion, Record};
 pub use decoding::{NoMark, decode, mark_at};
-pub use entries::{branch_at, portion_at};
+pub use entries::{Entries, Entry, branches, portions};

@@ -1,11 +1,13 @@
-use Rattle.std.proofs.Common.{◌≡◌, ◌-◌, ◌≤◌, length, take}
+use Rattle.std.proofs.Common.{◌≡◌, ◌+◌, ◌≤◌, length}
+use Rattle.std.specs.Iterator.Adapters.{enumerate_source, enumerate_count}
 use Rattle.records.specs.Held.{branches}
 use Rattle.filling.specs.Placed.{laid}
 use Rattle.filling.proofs.placing.put_branches.Given as goal
 
-abbrev pub invariant-loop-branch : goal.invariant-loop-branch
-invariant-loop-branch l =
-    (l.i ≤ length (branches l.entries)) × (l.table ≡ laid l.initial.table l.first (take l.i (branches l.entries)))
-
-abbrev pub decreases-loop-branch : goal.decreases-loop-branch
-decreases-loop-branch l = length (branches l.entries) - l.i
+-- what is left, laid over the table as it is now, makes what is wanted
+abbrev pub invariant-loop-i : goal.invariant-loop-i
+invariant-loop-i l =
+    (goal.iterator-loop-i).can_next l.i-iterator
+    × (goal.iterator-loop-i).is_finite l.i-iterator
+    × (l.first + enumerate_count l.i-iterator + length (enumerate_source l.i-iterator) ≤ length l.table)
+    × (laid l.initial.table l.first (branches l.entries) ≡ laid l.table (l.first + enumerate_count l.i-iterator) (enumerate_source l.i-iterator))
