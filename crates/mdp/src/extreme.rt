@@ -3,7 +3,7 @@ ghost use Rattle.std.specs.Prelude.{◌≡◌};
 ghost use Rattle.mdp.specs.Sums.{better};
 
 // One definition and one function serve both: whoever chooses takes the least offer, or the largest.
-#[derive(Clone, Copy)]
+#[derive(Clone, Copy, PartialEq, Eq, Debug)]
 pub enum Extreme {
     Min,
     Max,
