@@ -3,7 +3,7 @@
 
 use inspection::{Unsound, inspect};
 use mdp::Source;
-use reach::Reach;
+use reach::{Reach, Values};
 use requests::{BadLine, Request};
 use retry::Sheet;
 use rows::Row;
@@ -14,9 +14,11 @@ fn print_row(rt: &impl Print, n: u32, reach: &Reach) -> io::Result<()> {
     let Some(row) = Row::of(reach) else {
         return println!(rt; "{n:>4} no chances");
     };
-    let least = row.least;
-    let largest = row.largest;
-    let whole = row.whole;
+    let Values {
+        least,
+        largest,
+        whole,
+    } = row.values;
     let low = row.low;
     let high = row.high;
     println!(rt; "{n:>4} {least:>19} {largest:>19} {whole:>19} {low} {high}")
@@ -32,8 +34,7 @@ fn print_table(rt: &impl Print, source: &impl Source, steps: u32) -> io::Result<
     )?;
     let mut reach = Reach::start(source);
     print_row(rt, 0, &reach)?;
-    for before in 0..steps {
-        let n = before + 1;
+    for n in 1..=steps {
         if let Err(far) = reach.step(source) {
             return println!(rt; "{n:>4} {far}");
         }
