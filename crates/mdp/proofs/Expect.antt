@@ -39,16 +39,16 @@ expect_listed m xs s c n e =
 
 -- one more pair of a target and its value
 pub expect_step :
-    (m : Model) (n : ℕ) (xs : List ℕ) (s c i t w x total : ℕ)
+    (m : Model) (n : ℕ) (xs : List ℕ) (s c i t x total more : ℕ)
     → i < length (zip (range_with_len 0 n) xs) → (t, x) ≡ get_or (zip (range_with_len 0 n) xs) i (t, x)
-    → total ≡ expect_to m (entry xs) s c i → w ≡ m.weight s c t → total + w * x ≡ expect_to m (entry xs) s c (i + 1)
-expect_step m n xs s c i t w x total l is sum-is weight-is =
+    → total ≡ expect_to m (entry xs) s c i → more ≡ m.weight s c t * x → total + more ≡ expect_to m (entry xs) s c (i + 1)
+expect_step m n xs s c i t x total more l is sum-is more-is =
     let near : i < n = omega (arith, l, length-zip (range_with_len 0 n) xs, length-range_with_len 0 n) in
     let inside : i < length xs = omega (arith, l, length-zip (range_with_len 0 n) xs) in
     let pair = is ∙ get_or-zip (range_with_len 0 n) xs i (t, x) (omega (arith, near, length-range_with_len 0 n)) inside in
     let target : t ≡ i = ap (λ p. p.0) pair ∙ get_or-range_with_len 0 n i t near ∙ zero-add i in
     let value : x ≡ entry xs i = get_or_read xs i x inside (ap (λ p. p.1) pair) 0 in
-    rw (expect_more m (entry xs) s c i, sum-is, weight-is, target, value) refl
+    rw (expect_more m (entry xs) s c i, sum-is, more-is, target, value) refl
 
 -- how many such pairs there are
 pub target_count : (n : ℕ) (xs : List ℕ) → length (zip (range_with_len 0 n) xs) ≡ min n (length xs)

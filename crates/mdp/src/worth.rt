@@ -1,10 +1,18 @@
 // What a choice is worth, and what the best choice of a state is worth, on values of the targets.
-ghost use Rattle.std.specs.Prelude.{◌≡◌};
+ghost use Rattle.std.specs.Prelude.{◌≡◌, ◌*◌, ◌^◌, ◌≤◌};
 ghost use Rattle.mdp.specs.Sums.{best};
 ghost use Rattle.mdp.specs.Values.{entry, expect};
 
 use crate::extreme::Extreme;
 use crate::source::Source;
+
+// What one target adds to a weighted sum.
+fn product<S: Source>(source: &S, s: u32, c: u32, t: u32, value: u64) -> u128
+    ensures exact { result ≡ (S.Source.meaning source.now).weight s c t * value }
+    ensures fits { result ≤ 2 ^ 96 }
+{
+    source.weight(s, c, t) as u128 * value as u128
+}
 
 // The sum of weight × value over all targets of a choice; targets past the values count as 0. It fits, whatever the source answers.
 pub fn weighted_sum<S: Source>(source: &S, s: u32, c: u32, values: &[u64; 256]) -> u128
@@ -12,7 +20,7 @@ pub fn weighted_sum<S: Source>(source: &S, s: u32, c: u32, values: &[u64; 256]) 
 {
     let mut total: u128 = 0;
     for (t, value) in (0..source.states()).zip(values) {
-        total += source.weight(s, c, t) as u128 * *value as u128;
+        total += product(source, s, c, t, *value);
     }
     total
 }
@@ -21,8 +29,5 @@ pub fn weighted_sum<S: Source>(source: &S, s: u32, c: u32, values: &[u64; 256]) 
 pub fn best_choice<S: Source>(extreme: Extreme, source: &S, s: u32, values: &[u64; 256]) -> u128
     ensures { result ≡ best extreme ((S.Source.meaning source.now).choices s) (expect (S.Source.meaning source.now) (entry values.now) s) }
 {
-    (0..source.choices(s))
-        .map(|c| weighted_sum(source, s, c, values))
-        .reduce(|x, y| extreme.better(x, y))
-        .unwrap_or(0)
+    extreme.best(source.choices(s), |c| weighted_sum(source, s, c, values))
 }

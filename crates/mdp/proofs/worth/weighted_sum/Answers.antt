@@ -8,7 +8,7 @@ use Rattle.std.specs.List.{range_with_len, zip}
 use Rattle.std.specs.Slice.Iter.{iter_rest}
 use Rattle.std.proofs.lemmas.Iterator.{YieldsList, YieldsList-from_range, YieldsList-from_slice, YieldsList-from_zip, zips}
 use Rattle.std.proofs.lemmas.Iterator.Consumers.{YieldsList-at, YieldsList-turn, YieldsList-end}
-use Rattle.mdp.proofs.Expect.{expect_none, expect_step, expect_listed, product_fits, target_count}
+use Rattle.mdp.proofs.Expect.{expect_none, expect_step, expect_listed, target_count}
 use Rattle.mdp.proofs.worth.weighted_sum.Goals as goal
 
 -- the targets, each with its value
@@ -29,13 +29,12 @@ loop-t-preserved g c =
     c.into_iter-t-iterator.ensures.into_iter_gives c.zip-t-items.ensures.first c.zip-t-items.ensures.second.0)
     c.loop-t.yielded c.loop-t.t-iterator c.loop-t.yielded_by c.next.result c.next.new.self (c.in-Some.t, c.in-Some.value)
     c.in-Some.is c.next.ensures.steps in
-    let p = product_fits c.weight.result c.in-Some.value.now (omega arith) (omega arith) in
     rw length-append (
       c.loop-t.invariant.0,
       c.loop-t.invariant.1,
-      omega (arith, p),
+      omega arith,
       expect_step (g.S.Source.meaning c.args.source.now) c.states.result xs c.args.s c.args.c (length c.loop-t.yielded) c.in-Some.t
-          c.weight.result c.in-Some.value.now c.loop-t.total turn.0 turn.1 c.loop-t.invariant.3 c.weight.ensures,
+          c.in-Some.value.now c.loop-t.total c.product-total.result turn.0 turn.1 c.loop-t.invariant.3 c.product-total.ensures.exact,
     )
 
 pub returns : goal.returns
