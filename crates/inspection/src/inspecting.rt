@@ -1,7 +1,7 @@
 // How a source is inspected: limits first, then choices, then weights, and each from the lowest state on.
 ghost use Rattle.std.specs.Prelude.{◌≡◌, ◌↔◌, IsNone, IfSome, Decides};
 ghost use Rattle.mdp.specs.Sums.{sum};
-ghost use Rattle.inspection.specs.Inspection.{OutOfLimits, Lowest, MissesChoices, MissesWeights, FirstFault, Inspected};
+ghost use Rattle.inspection.specs.Inspection.{OutOfLimits, Lowest, MissesChoices, IsFull, MissesWeights, FirstFault, Inspected};
 
 use crate::fault::{Fault, Unsound};
 use mdp::{Source, weighted_sum};
@@ -32,11 +32,16 @@ impl<'a, S: Source> Limited<'a, S> {
         weighted_sum(self.source, s, c, &[1; 256])
     }
 
+    fn is_full(&self, s: u32, c: u32) -> bool
+        ensures { Decides result (IsFull (S.Source.meaning self.now.source.now) s c) }
+    {
+        self.total_weight(s, c) == self.source.denominator() as u128
+    }
+
     fn misses_weights(&self, s: u32) -> bool
         ensures { Decides result (MissesWeights (S.Source.meaning self.now.source.now) s) }
     {
-        let full = self.source.denominator() as u128;
-        (0..self.source.choices(s)).any(|c| self.total_weight(s, c) != full)
+        (0..self.source.choices(s)).any(|c| !self.is_full(s, c))
     }
 
     fn lowest_missing_weights(&self) -> Option<u32>

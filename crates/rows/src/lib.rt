@@ -20,10 +20,8 @@ impl Row {
         ensures { (m : Model) (k : ℕ) → Bounded m → Sound m → Reaches m k reach.now → Exact m k result }
     {
         let values = reach.at(0);
-        Some(Row {
-            values,
-            low: Decimal::rounded_down(values.least, values.whole)?,
-            high: Decimal::rounded_up(values.largest, values.whole)?,
-        })
+        let low = Decimal::rounded_down(values.least, values.whole)?;
+        let high = Decimal::rounded_up(values.largest, values.whole)?;
+        Some(Row { values, low, high })
     }
 }
