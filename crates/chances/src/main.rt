@@ -11,16 +11,14 @@ use std::io;
 
 // The values of a source that was inspected and found sound always make a row.
 fn print_row(rt: &impl Print, n: u32, reach: &Reach) -> io::Result<()> {
-    let Some(row) = Row::of(reach) else {
+    let Some(Row { values, low, high }) = Row::of(reach) else {
         return println!(rt; "{n:>4} no chances");
     };
     let Values {
         least,
         largest,
         whole,
-    } = row.values;
-    let low = row.low;
-    let high = row.high;
+    } = values;
     println!(rt; "{n:>4} {least:>19} {largest:>19} {whole:>19} {low} {high}")
 }
 
