@@ -1,9 +1,6 @@
 -- Weighted sums over the targets of a choice.
-use Rattle.std.proofs.Common.{◌≡◌, ℕ, ◌+◌, ◌*◌, ◌^◌, ◌<◌, ◌≤◌, min, List, length, get_or, sym, refl, ap, ◌∙◌, inl, inr, mul_assoc, mul-le-mul, mul-le-mul_left, mul-zero, mul-one, zero-add, arith}
-use Rattle.std.specs.List.{range_with_len, zip}
-use Rattle.std.proofs.lemmas.List.{get_or_past, get_or_read}
-use Rattle.std.proofs.lemmas.List.FromFn.{length-range_with_len, get_or-range_with_len}
-use Rattle.std.proofs.lemmas.Slice.Zip.{length-zip, get_or-zip}
+use Rattle.std.proofs.Common.{◌≡◌, ℕ, ◌+◌, ◌*◌, ◌^◌, ◌<◌, ◌≤◌, min, List, length, sym, refl, ap, ◌∙◌, inl, inr, mul_assoc, mul-le-mul, mul-le-mul_left, mul-zero, mul-one, arith}
+use Rattle.std.proofs.lemmas.List.{get_or_past}
 use Rattle.std.proofs.lemmas.Bool.{cases_lt}
 use Rattle.mdp.specs.Model.{Model}
 use Rattle.mdp.specs.Sums.{sum}
@@ -16,7 +13,7 @@ pub expect_none : (m : Model) (v : ℕ → ℕ) (s c : ℕ) → expect_to m v s 
 unfolding expect_to
 expect_none m v s c = sum_none _
 
-expect_more : (m : Model) (v : ℕ → ℕ) (s c n : ℕ) → expect_to m v s c (n + 1) ≡ expect_to m v s c n + m.weight s c n * v n
+pub expect_more : (m : Model) (v : ℕ → ℕ) (s c n : ℕ) → expect_to m v s c (n + 1) ≡ expect_to m v s c n + m.weight s c n * v n
 unfolding expect_to
 expect_more m v s c n = sum_more n _
 
@@ -36,23 +33,6 @@ expect_listed m xs s c n e =
           let same : n ≡ length xs = omega arith in
           rw same (sym (expect_past m (entry xs) s c m.states (length xs) l (λ t g. get_or_past xs t 0 g)))
     ]
-
--- one more pair of a target and its value
-pub expect_step :
-    (m : Model) (n : ℕ) (xs : List ℕ) (s c i t x total more : ℕ)
-    → i < length (zip (range_with_len 0 n) xs) → (t, x) ≡ get_or (zip (range_with_len 0 n) xs) i (t, x)
-    → total ≡ expect_to m (entry xs) s c i → more ≡ m.weight s c t * x → total + more ≡ expect_to m (entry xs) s c (i + 1)
-expect_step m n xs s c i t x total more l is sum-is more-is =
-    let near : i < n = omega (arith, l, length-zip (range_with_len 0 n) xs, length-range_with_len 0 n) in
-    let inside : i < length xs = omega (arith, l, length-zip (range_with_len 0 n) xs) in
-    let pair = is ∙ get_or-zip (range_with_len 0 n) xs i (t, x) (omega (arith, near, length-range_with_len 0 n)) inside in
-    let target : t ≡ i = ap (λ p. p.0) pair ∙ get_or-range_with_len 0 n i t near ∙ zero-add i in
-    let value : x ≡ entry xs i = get_or_read xs i x inside (ap (λ p. p.1) pair) 0 in
-    rw (expect_more m (entry xs) s c i, sum-is, more-is, target, value) refl
-
--- how many such pairs there are
-pub target_count : (n : ℕ) (xs : List ℕ) → length (zip (range_with_len 0 n) xs) ≡ min n (length xs)
-target_count n xs = length-zip (range_with_len 0 n) xs ∙ ap (λ k. min k (length xs)) (length-range_with_len 0 n)
 
 -- a weight of 32 bits times a value of 64 bits
 pub product_fits : (w x : ℕ) → w < 2 ^ 32 → x < 2 ^ 64 → w * x ≤ 2 ^ 96

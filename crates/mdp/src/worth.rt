@@ -18,9 +18,11 @@ fn product<S: Source>(source: &S, s: u32, c: u32, t: u32, value: u64) -> u128
 pub fn weighted_sum<S: Source>(source: &S, s: u32, c: u32, values: &[u64; 256]) -> u128
     ensures { result ≡ expect (S.Source.meaning source.now) (entry values.now) s c }
 {
+    // A `zip` of the targets and the values takes twice the time.
+    let n = values.len().min(source.states() as usize);
     let mut total: u128 = 0;
-    for (t, value) in (0..source.states()).zip(values) {
-        total += product(source, s, c, t, *value);
+    for (t, value) in values[..n].iter().enumerate() {
+        total += product(source, s, c, t as u32, *value);
     }
     total
 }
