@@ -1,4 +1,5 @@
 // Tests of the retry sheet.
+use crate::values;
 use inspection::inspect;
 use mdp::Source;
 use reach::exact_values;
@@ -63,10 +64,10 @@ fn no_more_lost_than_there_is(rt: HostRuntime) {
 #[test]
 fn chances_of_sheet_a(rt: HostRuntime) {
     let source = sheet_a().under_sink();
-    assert_eq!(rt; exact_values(&source, 0, 2), Ok((0, 18, 100)));
-    assert_eq!(rt; exact_values(&source, 6, 2), Ok((100, 100, 100)));
+    assert_eq!(rt; exact_values(&source, 0, 2), Ok(values(0, 18, 100)));
+    assert_eq!(rt; exact_values(&source, 6, 2), Ok(values(100, 100, 100)));
     assert_eq!(rt;
         exact_values(&source, 0, 18),
-        Ok((0, 180000000000000000, 1000000000000000000))
+        Ok(values(0, 180000000000000000, 1000000000000000000))
     );
 }

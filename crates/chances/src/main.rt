@@ -3,7 +3,7 @@
 
 use inspection::{Unsound, inspect};
 use mdp::Source;
-use reach::Reach;
+use reach::{Reach, Values};
 use requests::{BadLine, Request};
 use retry::{Numbers, Sheet};
 use rows::Row;
@@ -11,14 +11,14 @@ use std::io;
 
 // The values of a source that was inspected and found sound always make a row.
 fn print_row(rt: &impl Print, n: u32, reach: &Reach) -> io::Result<()> {
-    let Some(row) = Row::of(reach) else {
+    let Some(Row { values, low, high }) = Row::of(reach) else {
         return println!(rt; "{n:>4} no chances");
     };
-    let least = row.least;
-    let largest = row.largest;
-    let whole = row.whole;
-    let low = row.low;
-    let high = row.high;
+    let Values {
+        least,
+        largest,
+        whole,
+    } = values;
     println!(rt; "{n:>4} {least:>19} {largest:>19} {whole:>19} {low} {high}")
 }
 
@@ -32,8 +32,7 @@ fn print_table(rt: &impl Print, source: &impl Source, steps: u32) -> io::Result<
     )?;
     let mut reach = Reach::start(source);
     print_row(rt, 0, &reach)?;
-    for before in 0..steps {
-        let n = before + 1;
+    for n in 1..=steps {
         if let Err(far) = reach.step(source) {
             return println!(rt; "{n:>4} {far}");
         }

@@ -1,5 +1,5 @@
 -- What an inspection answers: the model is sound, or which fault it has and at which state.
-use Rattle.std.specs.Prelude.{◌≡◌, ℕ, ◌+◌, ◌<◌, ◌⊎◌, Some, None, Ok, Err, Option, Result, ◌≢◌}
+use Rattle.std.specs.Prelude.{◌≡◌, ℕ, ◌+◌, ◌<◌, ◌⊎◌, Some, None, Ok, Err, Option, Result}
 use Rattle.inspection.specs.declared.fault.Fault.{Fault}
 use Rattle.inspection.specs.declared.fault.Fault.TheVariants.{Limits, Choices, Weights}
 use Rattle.inspection.specs.declared.fault.Unsound.{Unsound}
@@ -35,9 +35,13 @@ OutOfLimits m = (m.states < 1) ⊎ ((256 < m.states) ⊎ ((m.denominator < 1) �
 abbrev pub MissesChoices : Model → ℕ → Type 0
 MissesChoices m s = (m.choices s ≡ 0) ⊎ (4096 < sum (s + 1) m.choices)
 
--- some choice of s has weights that do not add up to the denominator
+-- the weights of choice c of state s add up to the denominator
+abbrev pub IsFull : Model → ℕ → ℕ → Type 0
+IsFull m s c = sum m.states (m.weight s c) ≡ m.denominator
+
+-- some choice of s has weights that do not
 abbrev pub MissesWeights : Model → ℕ → Type 0
-MissesWeights m s = (c : ℕ) × (c < m.choices s) × (sum m.states (m.weight s c) ≢ m.denominator)
+MissesWeights m s = (c : ℕ) × (c < m.choices s) × (IsFull m s c → ⊥)
 
 -- the fault of the smallest number that the model has anywhere, at the lowest state that has it; None where the model is sound
 abbrev pub FirstFault : Model → Option Fault → Type 0

@@ -1,52 +1,57 @@
 // How a source is inspected: limits first, then choices, then weights, and each from the lowest state on.
-ghost use Rattle.std.specs.Prelude.{◌≡◌, ℕ, ◌<◌, ◌≤◌, Some, Decides};
-ghost use Rattle.mdp.specs.Sound.{Sound};
+ghost use Rattle.std.specs.Prelude.{◌≡◌, ◌↔◌, IsNone, IfSome, Decides};
 ghost use Rattle.mdp.specs.Sums.{sum};
-ghost use Rattle.mdp.specs.Values.{entry};
-ghost use Rattle.inspection.specs.Inspection.{Lowest, MissesChoices, MissesWeights, FirstFault, Inspected};
+ghost use Rattle.inspection.specs.Inspection.{OutOfLimits, Lowest, MissesChoices, IsFull, MissesWeights, FirstFault, Inspected};
 
 use crate::fault::{Fault, Unsound};
 use mdp::{Source, weighted_sum};
 
-// The value 1 for each state: weighted by it, the weights of a choice add up to their sum.
-fn ones() -> [u64; 256]
-    ensures { (k : ℕ) → k < 256 → entry result k ≡ 1 }
-{
-    [1; 256]
+// A source with a number of states and a denominator within their limits.
+#[derive(Drop)]
+struct Limited<'a, S: Source> {
+    source: &'a S,
+    ghost within: { OutOfLimits (S.Source.meaning source.now) → ⊥ },
 }
 
-// The weights of one choice, added up.
-fn row_total<S: Source>(source: &S, s: u32, c: u32) -> u128
-    ensures { (S.Source.meaning source.now).states ≤ 256 → result ≡ sum (S.Source.meaning source.now).states ((S.Source.meaning source.now).weight s c) }
-{
-    weighted_sum(source, s, c, &ones())
-}
-
-fn misses_weights<S: Source>(source: &S, s: u32) -> bool
-    requires { (S.Source.meaning source.now).states ≤ 256 }
-    ensures { Decides result (MissesWeights (S.Source.meaning source.now) s) }
-{
-    let d = source.denominator() as u128;
-    for c in 0..source.choices(s) {
-        if row_total(source, s, c) != d {
-            return true;
+impl<'a, S: Source> Limited<'a, S> {
+    fn new(source: &'a S) -> Option<Self>
+        ensures none { IsNone result ↔ OutOfLimits (S.Source.meaning source.now) }
+        ensures some { IfSome result (λ x. x.source.now ≡ source.now) }
+    {
+        if (1..=256).contains(&source.states()) && (1..=65535).contains(&source.denominator()) {
+            Some(Limited { source })
+        } else {
+            None
         }
     }
-    false
-}
 
-fn lowest_missing_weights<S: Source>(source: &S) -> Option<u32>
-    requires { (S.Source.meaning source.now).states ≤ 256 }
-    ensures { Lowest (MissesWeights (S.Source.meaning source.now)) (S.Source.meaning source.now).states result }
-{
-    for s in 0..source.states() {
-        if misses_weights(source, s) {
-            return Some(s);
-        }
+    // The weights of one choice, added up: weighted by 1 each.
+    fn total_weight(&self, s: u32, c: u32) -> u128
+        ensures { result ≡ sum (S.Source.meaning self.now.source.now).states ((S.Source.meaning self.now.source.now).weight s c) }
+    {
+        weighted_sum(self.source, s, c, &[1; 256])
     }
-    None
+
+    fn is_full(&self, s: u32, c: u32) -> bool
+        ensures { Decides result (IsFull (S.Source.meaning self.now.source.now) s c) }
+    {
+        self.total_weight(s, c) == self.source.denominator() as u128
+    }
+
+    fn misses_weights(&self, s: u32) -> bool
+        ensures { Decides result (MissesWeights (S.Source.meaning self.now.source.now) s) }
+    {
+        (0..self.source.choices(s)).any(|c| !self.is_full(s, c))
+    }
+
+    fn lowest_missing_weights(&self) -> Option<u32>
+        ensures { Lowest (MissesWeights (S.Source.meaning self.now.source.now)) (S.Source.meaning self.now.source.now).states result }
+    {
+        (0..self.source.states()).find(|&s| self.misses_weights(s))
+    }
 }
 
+// A loop, since it goes on with a running total, which the closure of a `find` would have to change.
 fn lowest_missing_choices<S: Source>(source: &S) -> Option<u32>
     ensures { Lowest (MissesChoices (S.Source.meaning source.now)) (S.Source.meaning source.now).states result }
 {
@@ -64,25 +69,14 @@ fn lowest_missing_choices<S: Source>(source: &S) -> Option<u32>
 fn first_fault<S: Source>(source: &S) -> Option<Fault>
     ensures { FirstFault (S.Source.meaning source.now) result }
 {
-    let n = source.states();
-    let d = source.denominator();
-    if n < 1 || n > 256 || d < 1 || d > 65535 {
+    let Some(limited) = Limited::new(source) else {
         return Some(Fault::Limits);
-    }
+    };
     if let Some(s) = lowest_missing_choices(source) {
         return Some(Fault::Choices(s));
     }
-    match lowest_missing_weights(source) {
-        Some(s) => Some(Fault::Weights(s)),
-        None => None,
-    }
+    limited.lowest_missing_weights().map(Fault::Weights)
 }
-
-// It does nothing: to call it is to cite that a model with a fault is not sound.
-fn rules_out_soundness<S: Source>(source: &S, fault: Fault)
-    requires { FirstFault (S.Source.meaning source.now) (Some fault) }
-    ensures { Sound (S.Source.meaning source.now) → ⊥ }
-{}
 
 // Whether the source's model is sound; if not, the fault of the smallest number that it has anywhere, at the lowest state.
 pub fn inspect<S: Source>(source: &S) -> Result<(), Unsound>
@@ -90,12 +84,9 @@ pub fn inspect<S: Source>(source: &S) -> Result<(), Unsound>
 {
     match first_fault(source) {
         None => Ok(()),
-        Some(fault) => {
-            rules_out_soundness(source, fault);
-            Err(Unsound {
-                letter: S::LETTER,
-                fault,
-            })
-        }
+        Some(fault) => Err(Unsound {
+            letter: S::LETTER,
+            fault,
+        }),
     }
 }

@@ -1,24 +1,19 @@
 -- The least and the largest over the numbers below n.
-use Rattle.std.proofs.Common.{◌≡◌, ℕ, zero, suc, ◌+◌, ◌*◌, ◌<◌, ◌≤◌, ◌⊎◌, sym, refl, ap, ◌∙◌, subst, ap₂, inl, inr, le_of_lt, mul-le-mul_right, add-one, arith}
+use Rattle.std.proofs.Common.{◌≡◌, ℕ, zero, suc, ◌+◌, [], ◌∷◌, ◌++◌, map, ◌*◌, ◌<◌, ◌≤◌, ◌⊎◌, sym, refl, ap, ◌∙◌, subst, ap₂, inl, inr, le_of_lt, mul-le-mul_right, add-one, arith}
+use Rattle.std.specs.List.{fold, reduce, range_with_len}
+use Rattle.std.specs.Option.{unwrap_or}
+use Rattle.std.proofs.lemmas.Grind.{fold-append}
+use Rattle.std.proofs.lemmas.List.FromFn.{map-range_with_len_more}
 use native.Mathlib.Nat.{max-eq_left, max-eq_right, min-eq_left, min-eq_right}
 use Rattle.std.proofs.lemmas.Bool.{cases_lt}
 use Rattle.mdp.specs.declared.extreme.Extreme.{Extreme}
 use Rattle.mdp.specs.declared.extreme.Extreme.TheVariants.{Min, Max}
 use Rattle.mdp.specs.Sums.{better, best}
 
--- the start and the steps of a loop over the choices
+-- of no numbers it is 0
 pub best_none : (e : Extreme) (f : ℕ → ℕ) → best e 0 f ≡ 0
 unfolding best
 best_none e f = refl
-
-pub best_first : (e : Extreme) (n : ℕ) (f : ℕ → ℕ) → n ≡ 0 → best e (n + 1) f ≡ f n
-unfolding best
-best_first e n f z = rw z refl
-
-pub best_more : (e : Extreme) (n : ℕ) (f : ℕ → ℕ) → 0 < n → best e (n + 1) f ≡ better e (best e n f) (f n)
-unfolding best
-best_more e zero f l = absurd (let z : ⊥ = omega arith in z)
-best_more e (suc n) f l = rw add-one refl
 
 better_is : (e : Extreme) (x y : ℕ) → (better e x y ≡ x) ⊎ (better e x y ≡ y)
 better_is Min x y = elim (cases_lt x y) [ inl l ↦ inl (min-eq_left (le_of_lt l)) | inr l ↦ inr (min-eq_right l) ]
@@ -80,3 +75,16 @@ least_le_largest zero f g h = omega arith
 least_le_largest (suc zero) f g h = h 0 (omega arith)
 least_le_largest (suc (suc n)) f g h =
     omega (arith, least_le_largest (suc n) f g (λ c l. h c (omega arith)), h (suc n) (omega arith))
+
+-- the best over the numbers below n is what a reduction of the list of all offers gives
+folded : (e : Extreme) (n : ℕ) (f : ℕ → ℕ) → fold (better e) (f 0) (map f (range_with_len 1 n)) ≡ best e (suc n) f
+unfolding best
+folded e zero f = refl
+folded e (suc n) f =
+    let last : map f (range_with_len 1 (n + 1)) ≡ map f (range_with_len 1 n) ++ f (suc n) ∷ [] = map-range_with_len_more f 1 n (suc n) (omega arith) in
+    let long : map f (range_with_len 1 (suc n)) ≡ map f (range_with_len 1 n) ++ f (suc n) ∷ [] = rw add-one at last in
+    rw (long, fold-append (better e) (f 0) (map f (range_with_len 1 n)) (f (suc n) ∷ []), folded e n f) refl
+
+pub best_reduced : (e : Extreme) (n : ℕ) (f : ℕ → ℕ) → unwrap_or (reduce (better e) (map f (range_with_len 0 n))) 0 ≡ best e n f
+best_reduced e zero f = sym (best_none e f)
+best_reduced e (suc n) f = folded e n f

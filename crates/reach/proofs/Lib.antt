@@ -1,1 +1,2 @@
+mod FromFn
 mod OneStep

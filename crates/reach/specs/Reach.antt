@@ -2,6 +2,7 @@
 use Rattle.std.specs.Prelude.{◌≡◌, ℕ, ◌+◌, ◌*◌, ◌^◌, ◌<◌, ◌≤◌, ◌⊎◌, List, Ok, Err, codes, Result}
 use Rattle.reach.specs.declared.reach.Reach.{Reach}
 use Rattle.reach.specs.declared.reach.TooFar.{TooFar}
+use Rattle.reach.specs.declared.reach.Values.{Values}
 use Rattle.mdp.specs.Model.{Model}
 use Rattle.mdp.specs.Sound.{Sound}
 use Rattle.mdp.specs.Values.{entry, most_of, least_of}
@@ -49,8 +50,8 @@ abbrev pub Stepped : Model → Reach → Result Unit TooFar → Reach → Type 0
 Stepped m old (Ok _) new = Advanced m old new
 Stepped m old (Err _) new = OutOfRange (old.steps + 1) (old.power * m.denominator) × (new ≡ old)
 
--- the answer to: what are the values of s for n steps? The least, the largest and the power, or too far.
-abbrev pub Answered : Model → ℕ → ℕ → Result (ℕ × ℕ × ℕ) TooFar → Type 0
+-- the answer to: what are the values of s for n steps? The values, or too far.
+abbrev pub Answered : Model → ℕ → ℕ → Result Values TooFar → Type 0
 Answered m s n (Ok v) =
-    InRange n (m.denominator ^ n) × (v.2 ≡ m.denominator ^ n) × (Sound m → (v.0 ≡ least_of m n s) × (v.1 ≡ most_of m n s))
+    InRange n (m.denominator ^ n) × (v.whole ≡ m.denominator ^ n) × (Sound m → (v.least ≡ least_of m n s) × (v.largest ≡ most_of m n s))
 Answered m s n (Err _) = OutOfRange n (m.denominator ^ n)

@@ -4,5 +4,5 @@
 mod reach;
 mod stepping;
 
-pub use reach::{Reach, TooFar};
+pub use reach::{Reach, TooFar, Values};
 pub use stepping::exact_values;

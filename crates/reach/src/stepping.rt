@@ -1,12 +1,12 @@
 // How the values of all states are worked out, one step at a time.
-ghost use Rattle.std.specs.Prelude.{◌≡◌, ℕ, ◌+◌, ◌-◌, ◌*◌, ◌^◌, ◌<◌, min, Some, slice_index};
+ghost use Rattle.std.specs.Prelude.{◌≡◌, ℕ, ◌<◌, Some, slice_index};
 ghost use Rattle.mdp.specs.Values.{entry, ValueLaws};
 ghost use Rattle.reach.specs.Reach.{far_number, far_place, far_words, Begun, Stepped, Answered};
 ghost use Rattle.reach.specs.Working.{Marks, next_value, Reached};
 
-use crate::reach::{Reach, TooFar};
+use crate::reach::{Reach, TooFar, Values};
 use mdp::{Extreme, Source, best_choice};
-use std::fmt;
+use std::{array, fmt};
 
 impl TooFar {
     pub fn number(&self) -> u32
@@ -32,30 +32,7 @@ impl fmt::Display for TooFar {
     }
 }
 
-// A number for each state, all 0.
-fn zeros() -> [u64; 256]
-    ensures { (k : ℕ) → slice_index result k ≡ 0 }
-{
-    [0; 256]
-}
-
-// The value of one state after a step.
-fn next_value<S: Source>(
-    extreme: Extreme,
-    source: &S,
-    s: u32,
-    values: &[u64; 256],
-    power: u64,
-) -> u64
-    ensures { result ≡ next_value extreme (S.Source.meaning source.now) power (entry values.now) s }
-{
-    if source.is_goal(s) {
-        return power;
-    }
-    best_choice(extreme, source, s, values).min(u64::MAX as u128) as u64
-}
-
-// The values of all states after a step.
+// The values of all states after a step; past the model they are 0.
 fn next_values<S: Source>(
     extreme: Extreme,
     source: &S,
@@ -64,24 +41,20 @@ fn next_values<S: Source>(
 ) -> [u64; 256]
     ensures { (s : ℕ) → s < 256 → slice_index result s ≡ next_value extreme (S.Source.meaning source.now) power (entry values.now) s }
 {
-    let mut next = zeros();
-    for s in 0..source.states().min(256) {
-        next[s as usize] = next_value(extreme, source, s, values, power);
-    }
-    next
+    array::from_fn(|s| {
+        if source.is_goal(s as u32) {
+            return power;
+        }
+        let best = best_choice(extreme, source, s as u32, values);
+        u64::try_from(best).unwrap_or(u64::MAX)
+    })
 }
 
 // The values for no steps: 1 at goals.
 fn goal_marks<S: Source>(source: &S) -> [u64; 256]
     ensures { Marks (S.Source.meaning source.now) result }
 {
-    let mut marks = zeros();
-    for s in 0..source.states().min(256) {
-        if source.is_goal(s) {
-            marks[s as usize] = 1;
-        }
-    }
-    marks
+    array::from_fn(|s| u64::from(source.is_goal(s as u32)))
 }
 
 impl Reach {
@@ -119,16 +92,18 @@ impl Reach {
         Ok(())
     }
 
-    // The least value of a state, its largest, and the power of the denominator that both are shares of.
-    pub fn at(&self, s: u32) -> (u64, u64, u64)
-        ensures least { result.0 ≡ entry self.now.least s }
-        ensures largest { result.1 ≡ entry self.now.largest s }
-        ensures power { result.2 ≡ self.now.power }
+    // The values of one state; 0 past the states that there is room for.
+    pub fn at(&self, s: u32) -> Values
+        ensures least { result.least ≡ entry self.now.least s }
+        ensures largest { result.largest ≡ entry self.now.largest s }
+        ensures whole { result.whole ≡ self.now.power }
     {
-        if s >= 256 {
-            return (0, 0, self.power);
+        let value = |values: &[u64; 256]| values.get(s as usize).copied().unwrap_or(0);
+        Values {
+            least: value(&self.least),
+            largest: value(&self.largest),
+            whole: self.power,
         }
-        (self.least[s as usize], self.largest[s as usize], self.power)
     }
 }
 
@@ -147,8 +122,8 @@ fn reached<S: Source>(source: &S, n: u32) -> Result<Reach, TooFar>
     Ok(reach)
 }
 
-// The exact values of one state for `n` steps: the least, the largest, and the power of the denominator that both are shares of.
-pub fn exact_values<S: Source>(source: &S, s: u32, n: u32) -> Result<(u64, u64, u64), TooFar>
+// The exact values of one state for `n` steps.
+pub fn exact_values<S: Source>(source: &S, s: u32, n: u32) -> Result<Values, TooFar>
     ensures answer { Answered (S.Source.meaning source.now) s n result }
     ensures laws { ValueLaws (S.Source.meaning source.now) n s }
 {

@@ -19,15 +19,9 @@ impl Row {
     pub fn of(reach: &Reach) -> Option<Row>
         ensures { (m : Model) (k : ℕ) → Bounded m → Sound m → Reaches m k reach.now → Exact m k result }
     {
-        let (least, largest, whole) = reach.at(0);
-        let low = Decimal::rounded_down(least, whole)?;
-        let high = Decimal::rounded_up(largest, whole)?;
-        Some(Row {
-            least,
-            largest,
-            whole,
-            low,
-            high,
-        })
+        let values = reach.at(0);
+        let low = Decimal::rounded_down(values.least, values.whole)?;
+        let high = Decimal::rounded_up(values.largest, values.whole)?;
+        Some(Row { values, low, high })
     }
 }

@@ -1,12 +1,11 @@
 // What a row of the table holds.
 use decimals::Decimal;
+use reach::Values;
 
-// The least and the largest value and the whole that both are shares of; and the shares as decimals, rounded to the safe side.
+// The exact values; and the least and the largest of them as decimals, rounded to the safe side.
 #[derive(Clone, Copy)]
 pub struct Row {
-    pub least: u64,
-    pub largest: u64,
-    pub whole: u64,
+    pub values: Values,
     pub low: Decimal,
     pub high: Decimal,
 }

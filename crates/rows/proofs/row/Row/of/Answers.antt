@@ -6,13 +6,13 @@ use Rattle.rows.proofs.row.Row.of.Goals as goal
 pub returns-in_err-low : goal.returns-in_err-low
 returns-in_err-low c =
     rw c.from_residual.ensures
-    (λ m k b sound held. values_are_shares Min m k c.at-least.result.0 c.at-least.result.2 b sound
-    (c.at-least.ensures.least ∙ held.least 0) (c.at-least.ensures.power ∙ held.power)
+    (λ m k b sound held. values_are_shares Min m k c.at-values.result.least c.at-values.result.whole b sound
+    (c.at-values.ensures.least ∙ held.least 0) (c.at-values.ensures.whole ∙ held.power)
     c.in_err-low.ensures)
 
 pub returns-in_err-high : goal.returns-in_err-high
 returns-in_err-high c =
     rw c.from_residual-in_err-high.ensures
-    (λ m k b sound held. values_are_shares Max m k c.at-least.result.1 c.at-least.result.2 b sound
-    (c.at-least.ensures.largest ∙ held.largest 0) (c.at-least.ensures.power ∙ held.power)
+    (λ m k b sound held. values_are_shares Max m k c.at-values.result.largest c.at-values.result.whole b sound
+    (c.at-values.ensures.largest ∙ held.largest 0) (c.at-values.ensures.whole ∙ held.power)
     c.in_err-high.ensures)
