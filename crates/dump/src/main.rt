@@ -1,6 +1,7 @@
 // Prints a model file or a hand-in record by record, in words, and then whether it was read whole: why was my file refused?
 #![tactic(auto)]
 
+use grammar::Kind;
 use reader::{ReadFault, Reader};
 use records::{Branch, Mark, Portion, Record, branches, mark_at, portions};
 use std::io;
@@ -47,41 +48,36 @@ fn print_portions(rt: &impl Print, entries: &[u8]) -> io::Result<()> {
     Ok(())
 }
 
-fn print_row(rt: &impl Print, offset: usize, state: u16, row: u64) -> io::Result<()> {
+fn print_row(rt: &impl Print, state: u16, row: u64) -> io::Result<()> {
     if row == 0 {
-        return println!(rt; "{offset:>6} RW state {state}: related to nothing");
+        return println!(rt; "RW state {state}: related to nothing");
     }
-    print!(rt; "{offset:>6} RW state {state}: related to")?;
+    print!(rt; "RW state {state}: related to")?;
     for t in (0..64u32).filter(|t| (row >> *t) & 1 == 1) {
         print!(rt; " {t}")?;
     }
     println!(rt; "")
 }
 
-// The numbers are the file's: an enum between a number and its word would be one more table.
-fn kind_word(kind: u8) -> &'static str {
+fn kind_word(kind: Kind) -> &'static str {
     match kind {
-        1 => "ceilings",
-        2 => "floors",
-        3 => "classes",
-        4 => "relation",
-        _ => "carry",
+        Kind::Ceilings => "ceilings",
+        Kind::Floors => "floors",
+        Kind::Classes => "classes",
+        Kind::Relation => "relation",
+        Kind::Carry => "carry",
     }
 }
 
-fn print_head(rt: &impl Print, offset: usize, kind: u8, side: u8) -> io::Result<()> {
-    let word = kind_word(kind);
+fn print_head(rt: &impl Print, kind: u8, side: u8) -> io::Result<()> {
+    // A head that was read is of a kind that there is.
+    let word = Kind::try_from(kind).map_or("unknown", kind_word);
     let book = if side == 0 { "low" } else { "high" };
-    println!(rt; "{offset:>6} HD kind {kind} ({word}), side {side} ({book})")
+    println!(rt; "HD kind {kind} ({word}), side {side} ({book})")
 }
 
 // A record of a model file.
-fn print_model_record(
-    rt: &impl Print,
-    offset: usize,
-    item: Record<'_>,
-    count: Count,
-) -> io::Result<()> {
+fn print_model_record(rt: &impl Print, item: Record<'_>, count: Count) -> io::Result<()> {
     // A choice belongs to the state that came last.
     let last = count.state.saturating_sub(1);
     let state = count.state;
@@ -90,14 +86,14 @@ fn print_model_record(
         Record::Md {
             states,
             denominator,
-        } => println!(rt; "{offset:>6} MD states {states}, denominator {denominator}"),
+        } => println!(rt; "MD states {states}, denominator {denominator}"),
         Record::St { goal, choices } => {
             let mark = if goal == 1 { "goal" } else { "no goal" };
-            println!(rt; "{offset:>6} ST state {state}: {mark}, choices {choices}")
+            println!(rt; "ST state {state}: {mark}, choices {choices}")
         }
         Record::Ch { entries } => {
             let targets = branches(entries).len();
-            println!(rt; "{offset:>6} CH state {last}, choice {choice}: targets {targets}")?;
+            println!(rt; "CH state {last}, choice {choice}: targets {targets}")?;
             print_branches(rt, entries)
         }
         _ => Ok(()),
@@ -105,15 +101,15 @@ fn print_model_record(
 }
 
 // A record of a link.
-fn print_link_record(rt: &impl Print, offset: usize, item: Record<'_>) -> io::Result<()> {
+fn print_link_record(rt: &impl Print, item: Record<'_>) -> io::Result<()> {
     match item {
-        Record::Pc { state, class } => println!(rt; "{offset:>6} PC state {state}: class {class}"),
+        Record::Pc { state, class } => println!(rt; "PC state {state}: class {class}"),
         Record::Pm {
             state,
             choice,
             matched,
-        } => println!(rt; "{offset:>6} PM state {state}, choice {choice}: match {matched}"),
-        Record::Rw { state, row } => print_row(rt, offset, state, row),
+        } => println!(rt; "PM state {state}, choice {choice}: match {matched}"),
+        Record::Rw { state, row } => print_row(rt, state, row),
         Record::Wf {
             state,
             high,
@@ -123,7 +119,7 @@ fn print_link_record(rt: &impl Print, offset: usize, item: Record<'_>) -> io::Re
         } => {
             let count = portions(entries).len();
             println!(rt;
-                "{offset:>6} WF state {state}, high state {high}, choice {choice}: match {matched}, entries {count}"
+                "WF state {state}, high state {high}, choice {choice}: match {matched}, entries {count}"
             )?;
             print_portions(rt, entries)
         }
@@ -132,19 +128,18 @@ fn print_link_record(rt: &impl Print, offset: usize, item: Record<'_>) -> io::Re
 }
 
 fn print_record(rt: &impl Print, offset: usize, item: Record<'_>, count: Count) -> io::Result<()> {
+    print!(rt; "{offset:>6} ")?;
     match item {
         Record::Md { .. } | Record::St { .. } | Record::Ch { .. } => {
-            print_model_record(rt, offset, item, count)
+            print_model_record(rt, item, count)
         }
-        Record::Hd { kind, side } => print_head(rt, offset, kind, side),
-        Record::Ce { state, claim } => println!(rt;
-            "{offset:>6} CE state {state}: ceiling {claim}"
-        ),
-        Record::Fl { state, claim } => println!(rt; "{offset:>6} FL state {state}: floor {claim}"),
+        Record::Hd { kind, side } => print_head(rt, kind, side),
+        Record::Ce { state, claim } => println!(rt; "CE state {state}: ceiling {claim}"),
+        Record::Fl { state, claim } => println!(rt; "FL state {state}: floor {claim}"),
         Record::Pc { .. } | Record::Pm { .. } | Record::Rw { .. } | Record::Wf { .. } => {
-            print_link_record(rt, offset, item)
+            print_link_record(rt, item)
         }
-        Record::Zz => println!(rt; "{offset:>6} ZZ end"),
+        Record::Zz => println!(rt; "ZZ end"),
     }
 }
 
