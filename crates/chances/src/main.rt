@@ -14,12 +14,10 @@ fn print_row(rt: &impl Print, n: u32, reach: &Reach) -> io::Result<()> {
     let Some(row) = Row::of(reach) else {
         return println!(rt; "{n:>4} no chances");
     };
-    let least = row.least;
-    let largest = row.largest;
-    let whole = row.whole;
-    let low = row.low;
-    let high = row.high;
-    println!(rt; "{n:>4} {least:>19} {largest:>19} {whole:>19} {low} {high}")
+    println!(rt;
+        "{n:>4} {:>19} {:>19} {:>19} {} {}",
+        row.least, row.largest, row.whole, row.low, row.high
+    )
 }
 
 // The rows for 0 to `steps` steps, as far as the values go.
@@ -72,7 +70,7 @@ fn main(rt: HostRuntime) -> io::Result<()> {
     if rt.read_line(&mut line).is_err() {
         return println!(rt; "{BadLine}");
     }
-    match Request::parse(line.as_bytes()) {
+    match Request::try_from(line.as_bytes()) {
         Ok(request) => answer(&rt, &request),
         Err(bad) => println!(rt; "{bad}"),
     }
