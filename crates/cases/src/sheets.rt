@@ -2,6 +2,7 @@
 use inspection::inspect;
 use mdp::Source;
 use reach::exact_values;
+use refusals::Refusal;
 use retry::{Sheet, sheet_a};
 use std::test::Fail;
 

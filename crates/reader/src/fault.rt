@@ -1,8 +1,10 @@
 // What bytes are refused by that are no readable file: the number, the place, and the words.
-ghost use Rattle.std.specs.Prelude.{◌≡◌, Some};
+ghost use Rattle.std.specs.Prelude.{Some};
 ghost use Rattle.reader.specs.Faults.{number_of, place_of};
 ghost use Rattle.reader.specs.Words.{fault_words, refusal_words};
+ghost use Rattle.refusals.specs.declared.finder.Finder.TheVariants.{Reader};
 
+use refusals::{Finder, Refusal, write_refusal};
 use std::fmt;
 
 // Why the bytes do not read, with the offset of the record, or of the byte, that is at fault.
@@ -18,10 +20,18 @@ pub enum ReadFault {
     Surplus(usize),
 }
 
-impl ReadFault {
-    pub fn number(&self) -> u32
-        ensures { result ≡ number_of self.now }
-    {
+impl Refusal for ReadFault {
+    type Place = usize;
+
+    ghost number = { number_of };
+
+    ghost place = { place_of };
+
+    ghost words = { fault_words };
+
+    ghost finder = { λ _. Reader };
+
+    fn number(&self) -> u32 {
         match self {
             ReadFault::Ends(_) => 1,
             ReadFault::BadMark(_) => 2,
@@ -30,20 +40,16 @@ impl ReadFault {
         }
     }
 
-    pub fn place(&self) -> usize
-        ensures { result ≡ place_of self.now }
-    {
+    fn place(&self) -> usize {
         match self {
-            ReadFault::Ends(at) => *at,
-            ReadFault::BadMark(at) => *at,
-            ReadFault::BadField(at) => *at,
-            ReadFault::Surplus(at) => *at,
+            ReadFault::Ends(at)
+            | ReadFault::BadMark(at)
+            | ReadFault::BadField(at)
+            | ReadFault::Surplus(at) => *at,
         }
     }
 
-    fn words(&self) -> &'static str
-        ensures { result.now ≡ fault_words self.now }
-    {
+    fn words(&self) -> &'static str {
         match self {
             ReadFault::Ends(_) => "the bytes end before the record is complete",
             ReadFault::BadMark(_) => "the mark is unknown or not allowed there",
@@ -51,15 +57,16 @@ impl ReadFault {
             ReadFault::Surplus(_) => "there are bytes after ZZ",
         }
     }
+
+    fn finder(&self) -> Finder {
+        Finder::Reader
+    }
 }
 
 impl fmt::Display for ReadFault {
     ghost output = { λ f. Some (refusal_words f) };
 
     fn fmt<W: fmt::Write>(&self, f: &mut fmt::Formatter<W>) -> fmt::Result {
-        let number = self.number();
-        let place = self.place();
-        let words = self.words();
-        write!(f, "refused by {number} at place {place}: {words} (reader)")
+        write_refusal(self, f)
     }
 }
