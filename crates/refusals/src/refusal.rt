@@ -38,7 +38,8 @@ pub fn write_refusal<R: Refusal, W: fmt::Write>(
     refusal: &R,
     f: &mut fmt::Formatter<W>,
 ) -> fmt::Result
-    ensures { DisplaysOnOk W.write_str_gives f.old result (refusal_text (R.number refusal.now) (R.Place.output (R.place refusal.now)) (R.words refusal.now) (R.finder refusal.now)) f.new }
+    ensures { DisplaysOnOk W.write_str_gives f.old result
+        (refusal_text (R.number refusal.now) (R.Place.output (R.place refusal.now)) (R.words refusal.now) (R.finder refusal.now)) f.new }
 {
     let number = refusal.number();
     let place = refusal.place();

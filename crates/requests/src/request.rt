@@ -34,7 +34,8 @@ impl fmt::Display for Request {
         } = self;
         write!(
             f,
-            "Retry sheet: events {events}, resends of each {resends}. Of {denominator} sendings {request} lose the request and {receipt} the receipt."
+            "Retry sheet: events {events}, resends of each {resends}. \
+             Of {denominator} sendings {request} lose the request and {receipt} the receipt."
         )
     }
 }
