@@ -7,6 +7,7 @@ use inspection::{Unsound, inspect};
 use mdp::Source;
 use quotient::Quotient;
 use reach::{TooFar, exact_values};
+use refusals::Refusal;
 use sink::Sink;
 
 // Every state has the same number of choices, and every choice the same weight to every state.

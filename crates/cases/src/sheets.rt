@@ -3,6 +3,7 @@ use crate::values;
 use inspection::inspect;
 use mdp::Source;
 use reach::exact_values;
+use refusals::Refusal;
 use retry::{Numbers, Sheet, sheet_a};
 use std::test::Fail;
 

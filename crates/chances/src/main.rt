@@ -71,7 +71,7 @@ fn main(rt: HostRuntime) -> io::Result<()> {
     if rt.read_line(&mut line).is_err() {
         return println!(rt; "{BadLine}");
     }
-    match Request::parse(line.as_bytes()) {
+    match Request::try_from(line.as_bytes()) {
         Ok(request) => answer(&rt, &request),
         Err(bad) => println!(rt; "{bad}"),
     }

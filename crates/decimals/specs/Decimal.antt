@@ -1,5 +1,7 @@
 -- Which decimal of six places stands for part ÷ whole, when it may only be too small or only too large, and how it is written.
 use Rattle.std.specs.Prelude.{◌≡◌, ℕ, ◌+◌, ◌*◌, ◌/◌, ◌%◌, ◌<◌, ◌≤◌, ◌⊎◌, List, ◌++◌, codes, decimal}
+use Rattle.decimals.specs.declared.Rounding.{Rounding}
+use Rattle.decimals.specs.declared.Rounding.TheVariants.{Down, Up}
 
 -- there is no whole, or the part is larger
 abbrev pub NoShare : ℕ → ℕ → Type 0
@@ -16,6 +18,11 @@ pub record NotBelow (part whole millionths : ℕ) : Type 0 where
   pub share : part ≤ whole
   pub safe : part * 1000000 ≤ millionths * whole
   pub next : millionths * whole < part * 1000000 + whole
+
+-- the decimal that a rounding of the share takes
+abbrev pub Nearest : Rounding → ℕ → ℕ → ℕ → Type 0
+Nearest Down part whole millionths = NotAbove part whole millionths
+Nearest Up part whole millionths = NotBelow part whole millionths
 
 -- the whole ones, a point, and the six places
 abbrev pub written : ℕ → List ℕ

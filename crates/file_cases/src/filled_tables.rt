@@ -3,6 +3,7 @@ use filling::Tables;
 use inspection::{Fault, inspect};
 use mdp::Source;
 use records::Branch;
+use refusals::Refusal;
 use sink::Sink;
 use std::process::Abort;
 use std::test::Fail;

@@ -1,5 +1,6 @@
 // Hand-ins that read, and each way in which one does not.
 use reader::{ReadFault, Reader, read_hand_in};
+use refusals::Refusal;
 use std::process::Abort;
 
 const CEILINGS: &[u8] = b"HD\x01\x00CE\x00\x00\x00\x10\x00\x00CE\x00\x01\x00\x00\x00\x05ZZ";

@@ -1,6 +1,7 @@
 // Hand-ins that are written, and records that no hand-in has there.
 use reader::read_hand_in;
 use records::Record;
+use refusals::Refusal;
 use std::alloc::{AllocError, Global};
 use std::process::Abort;
 use std::test::Fail;

@@ -1,9 +1,10 @@
 // What a filling is refused by: the number, the place, and the words.
 ghost use Rattle.std.specs.Prelude.{◌≡◌, Some};
-ghost use Rattle.filling.specs.Faults.{number_of, place_of, refusal_words};
+ghost use Rattle.filling.specs.Faults.{number_of, place_of, fault_words, finder_of, refusal_words};
 ghost use Rattle.filling.specs.declared.fault.FillFault.TheVariants.{Reading};
 
 use reader::ReadFault;
+use refusals::{Finder, Refusal, write_refusal};
 use std::fmt;
 
 #[derive(Clone, Copy)]
@@ -22,10 +23,18 @@ impl From<ReadFault> for FillFault {
     }
 }
 
-impl FillFault {
-    pub fn number(&self) -> u32
-        ensures { result ≡ number_of self.now }
-    {
+impl Refusal for FillFault {
+    type Place = usize;
+
+    ghost number = { number_of };
+
+    ghost place = { place_of };
+
+    ghost words = { fault_words };
+
+    ghost finder = { finder_of };
+
+    fn number(&self) -> u32 {
         match self {
             FillFault::Reading(fault) => fault.number(),
             FillFault::NoRoom => 5,
@@ -33,12 +42,24 @@ impl FillFault {
     }
 
     // The offset in the bytes; 0 where a table is too small.
-    pub fn place(&self) -> usize
-        ensures { result ≡ place_of self.now }
-    {
+    fn place(&self) -> usize {
         match self {
             FillFault::Reading(fault) => fault.place(),
             FillFault::NoRoom => 0,
+        }
+    }
+
+    fn words(&self) -> &'static str {
+        match self {
+            FillFault::Reading(fault) => fault.words(),
+            FillFault::NoRoom => "a table is too small",
+        }
+    }
+
+    fn finder(&self) -> Finder {
+        match self {
+            FillFault::Reading(fault) => fault.finder(),
+            FillFault::NoRoom => Finder::Table,
         }
     }
 }
@@ -47,9 +68,6 @@ impl fmt::Display for FillFault {
     ghost output = { λ f. Some (refusal_words f) };
 
     fn fmt<W: fmt::Write>(&self, f: &mut fmt::Formatter<W>) -> fmt::Result {
-        match self {
-            FillFault::Reading(fault) => write!(f, "{fault}"),
-            FillFault::NoRoom => write!(f, "refused by 5 at place 0: a table is too small (table)"),
-        }
+        write_refusal(self, f)
     }
 }

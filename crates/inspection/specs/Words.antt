@@ -1,6 +1,7 @@
 -- The refusal of an unsound source in words.
-use Rattle.std.specs.Prelude.{ℕ, List, ◌++◌, codes, decimal}
-use Rattle.std.proofs.Math.Utf8.{encode}
+use Rattle.std.specs.Prelude.{ℕ, List, codes}
+use Rattle.refusals.specs.Refusal.{refusal_words}
+use Rattle.refusals.specs.declared.finder.Finder.TheVariants.{Opening}
 use Rattle.inspection.specs.declared.fault.Fault.{Fault}
 use Rattle.inspection.specs.declared.fault.Fault.TheVariants.{Limits, Choices, Weights}
 use Rattle.inspection.specs.declared.fault.Unsound.{Unsound}
@@ -12,9 +13,4 @@ fault_words (Choices s) = codes "the state has no choice, or with its choices th
 fault_words (Weights s) = codes "the weights of a choice of the state do not add up to the denominator"
 
 abbrev pub unsound_words : Unsound → List ℕ
-unsound_words u =
-    codes "refused by "
-    ++ (decimal (number_of u.fault) ++ (codes " at place "
-    ++ (decimal (place_of u.fault) ++ (codes ": "
-    ++ (fault_words u.fault ++ (codes " (opening of source "
-    ++ (encode u.letter ++ codes ")")))))))
+unsound_words u = refusal_words (number_of u.fault) (place_of u.fault) (fault_words u.fault) (Opening u.letter)

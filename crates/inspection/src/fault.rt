@@ -1,8 +1,10 @@
 // What an unsound source is refused by: the number, the place, and the words.
-ghost use Rattle.std.specs.Prelude.{◌≡◌, Some};
+ghost use Rattle.std.specs.Prelude.{Some};
 ghost use Rattle.inspection.specs.Inspection.{number_of, place_of};
 ghost use Rattle.inspection.specs.Words.{fault_words, unsound_words};
+ghost use Rattle.refusals.specs.declared.finder.Finder.TheVariants.{Opening};
 
+use refusals::{Finder, Refusal, write_refusal};
 use std::fmt;
 
 // Why a model is not sound, with the state that is at fault.
@@ -23,10 +25,18 @@ pub struct Unsound {
     pub fault: Fault,
 }
 
-impl Unsound {
-    pub fn number(&self) -> u32
-        ensures { result ≡ number_of self.now.fault }
-    {
+impl Refusal for Unsound {
+    type Place = u32;
+
+    ghost number = { λ u. number_of u.fault };
+
+    ghost place = { λ u. place_of u.fault };
+
+    ghost words = { λ u. fault_words u.fault };
+
+    ghost finder = { λ u. Opening u.letter };
+
+    fn number(&self) -> u32 {
         match self.fault {
             Fault::Limits => 6,
             Fault::Choices(_) => 7,
@@ -34,22 +44,15 @@ impl Unsound {
         }
     }
 
-    pub fn place(&self) -> u32
-        ensures { result ≡ place_of self.now.fault }
-    {
+    fn place(&self) -> u32 {
         match self.fault {
             Fault::Limits => 0,
-            Fault::Choices(s) => s,
-            Fault::Weights(s) => s,
+            Fault::Choices(s) | Fault::Weights(s) => s,
         }
     }
-}
 
-impl Fault {
-    fn words(&self) -> &'static str
-        ensures { result.now ≡ fault_words self.now }
-    {
-        match self {
+    fn words(&self) -> &'static str {
+        match self.fault {
             Fault::Limits =>
                 "the number of states is not 1 to 256, or the denominator not 1 to 65535",
             Fault::Choices(_) =>
@@ -58,19 +61,16 @@ impl Fault {
                 "the weights of a choice of the state do not add up to the denominator",
         }
     }
+
+    fn finder(&self) -> Finder {
+        Finder::Opening(self.letter)
+    }
 }
 
 impl fmt::Display for Unsound {
     ghost output = { λ u. Some (unsound_words u) };
 
     fn fmt<W: fmt::Write>(&self, f: &mut fmt::Formatter<W>) -> fmt::Result {
-        let number = self.number();
-        let place = self.place();
-        let words = self.fault.words();
-        let letter = self.letter as char;
-        write!(
-            f,
-            "refused by {number} at place {place}: {words} (opening of source {letter})"
-        )
+        write_refusal(self, f)
     }
 }

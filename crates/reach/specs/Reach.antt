@@ -1,5 +1,7 @@
 -- What a call for exact values answers, and when it is refused.
 use Rattle.std.specs.Prelude.{◌≡◌, ℕ, ◌+◌, ◌*◌, ◌^◌, ◌<◌, ◌≤◌, ◌⊎◌, List, Ok, Err, codes, Result}
+use Rattle.refusals.specs.Refusal.{refusal_words}
+use Rattle.refusals.specs.declared.finder.Finder.TheVariants.{ExactValues}
 use Rattle.reach.specs.declared.reach.Reach.{Reach}
 use Rattle.reach.specs.declared.reach.TooFar.{TooFar}
 use Rattle.reach.specs.declared.reach.Values.{Values}
@@ -14,8 +16,11 @@ far_number _ = 18
 abbrev pub far_place : TooFar → ℕ
 far_place _ = 0
 
+abbrev pub far_why : TooFar → List ℕ
+far_why _ = codes "more than 1000 steps, or a power of the denominator above 2^62"
+
 abbrev pub far_words : TooFar → List ℕ
-far_words x = codes "refused by 18 at place 0: more than 1000 steps, or a power of the denominator above 2^62 (exact values)"
+far_words x = refusal_words (far_number x) (far_place x) (far_why x) ExactValues
 
 -- more steps than 1,000, or a power of the denominator above 2 ^ 62
 abbrev pub OutOfRange : ℕ → ℕ → Type 0

@@ -1,24 +1,40 @@
 // How the values of all states are worked out, one step at a time.
 ghost use Rattle.std.specs.Prelude.{◌≡◌, ℕ, ◌<◌, Some, slice_index};
 ghost use Rattle.mdp.specs.Values.{entry, ValueLaws};
-ghost use Rattle.reach.specs.Reach.{far_number, far_place, far_words, Begun, Stepped, Answered};
+ghost use Rattle.reach.specs.Reach.{far_number, far_place, far_why, far_words, Begun, Stepped, Answered};
+ghost use Rattle.refusals.specs.declared.finder.Finder.TheVariants.{ExactValues};
 ghost use Rattle.reach.specs.Working.{Marks, next_value, Reached};
 
 use crate::reach::{Reach, TooFar, Values};
 use mdp::{Extreme, Source, best_choice};
+use refusals::{Finder, Refusal, write_refusal};
 use std::{array, fmt};
 
-impl TooFar {
-    pub fn number(&self) -> u32
-        ensures { result ≡ far_number self.now }
-    {
+impl Refusal for TooFar {
+    type Place = u32;
+
+    ghost number = { far_number };
+
+    ghost place = { far_place };
+
+    ghost words = { far_why };
+
+    ghost finder = { λ _. ExactValues };
+
+    fn number(&self) -> u32 {
         18
     }
 
-    pub fn place(&self) -> u32
-        ensures { result ≡ far_place self.now }
-    {
+    fn place(&self) -> u32 {
         0
+    }
+
+    fn words(&self) -> &'static str {
+        "more than 1000 steps, or a power of the denominator above 2^62"
+    }
+
+    fn finder(&self) -> Finder {
+        Finder::ExactValues
     }
 }
 
@@ -26,9 +42,7 @@ impl fmt::Display for TooFar {
     ghost output = { λ x. Some (far_words x) };
 
     fn fmt<W: fmt::Write>(&self, f: &mut fmt::Formatter<W>) -> fmt::Result {
-        f.write_str(
-            "refused by 18 at place 0: more than 1000 steps, or a power of the denominator above 2^62 (exact values)",
-        )
+        write_refusal(self, f)
     }
 }
 

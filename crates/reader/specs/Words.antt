@@ -1,5 +1,7 @@
 -- A reading fault in words.
-use Rattle.std.specs.Prelude.{ℕ, List, ◌++◌, codes, decimal}
+use Rattle.std.specs.Prelude.{ℕ, List, codes}
+use Rattle.refusals.specs.Refusal as refusal
+use Rattle.refusals.specs.declared.finder.Finder.TheVariants.{Reader}
 use Rattle.reader.specs.declared.fault.ReadFault.{ReadFault}
 use Rattle.reader.specs.declared.fault.ReadFault.TheVariants.{Ends, BadMark, BadField, Surplus}
 use Rattle.reader.specs.Faults.{number_of, place_of}
@@ -11,8 +13,4 @@ fault_words (BadField at) = codes "a field is out of its range, or the order doe
 fault_words (Surplus at) = codes "there are bytes after ZZ"
 
 abbrev pub refusal_words : ReadFault → List ℕ
-refusal_words f =
-    codes "refused by "
-    ++ (decimal (number_of f) ++ (codes " at place "
-    ++ (decimal (place_of f) ++ (codes ": "
-    ++ (fault_words f ++ codes " (reader)")))))
+refusal_words f = refusal.refusal_words (number_of f) (place_of f) (fault_words f) Reader

@@ -2,9 +2,11 @@
 ghost use Rattle.std.specs.Prelude.{◌≡◌, Some};
 ghost use Rattle.reader.specs.Faults.{fault_of_mark, fault_of_misfit, number_of, place_of};
 ghost use Rattle.reader.specs.Words.{fault_words, refusal_words};
+ghost use Rattle.refusals.specs.declared.finder.Finder.TheVariants.{Reader};
 
 use grammar::Misfit;
 use records::NoMark;
+use refusals::{Finder, Refusal, write_refusal};
 use std::fmt;
 
 // Why the bytes do not read, with the offset of the record, or of the byte, that is at fault.
@@ -40,10 +42,20 @@ impl ReadFault {
             Misfit::BadField => ReadFault::BadField(at),
         }
     }
+}
 
-    pub fn number(&self) -> u32
-        ensures { result ≡ number_of self.now }
-    {
+impl Refusal for ReadFault {
+    type Place = usize;
+
+    ghost number = { number_of };
+
+    ghost place = { place_of };
+
+    ghost words = { fault_words };
+
+    ghost finder = { λ _. Reader };
+
+    fn number(&self) -> u32 {
         match self {
             ReadFault::Ends(_) => 1,
             ReadFault::BadMark(_) => 2,
@@ -52,9 +64,7 @@ impl ReadFault {
         }
     }
 
-    pub fn place(&self) -> usize
-        ensures { result ≡ place_of self.now }
-    {
+    fn place(&self) -> usize {
         match self {
             ReadFault::Ends(at)
             | ReadFault::BadMark(at)
@@ -63,9 +73,7 @@ impl ReadFault {
         }
     }
 
-    fn words(&self) -> &'static str
-        ensures { result.now ≡ fault_words self.now }
-    {
+    fn words(&self) -> &'static str {
         match self {
             ReadFault::Ends(_) => "the bytes end before the record is complete",
             ReadFault::BadMark(_) => "the mark is unknown or not allowed there",
@@ -73,15 +81,16 @@ impl ReadFault {
             ReadFault::Surplus(_) => "there are bytes after ZZ",
         }
     }
+
+    fn finder(&self) -> Finder {
+        Finder::Reader
+    }
 }
 
 impl fmt::Display for ReadFault {
     ghost output = { λ f. Some (refusal_words f) };
 
     fn fmt<W: fmt::Write>(&self, f: &mut fmt::Formatter<W>) -> fmt::Result {
-        let number = self.number();
-        let place = self.place();
-        let words = self.words();
-        write!(f, "refused by {number} at place {place}: {words} (reader)")
+        write_refusal(self, f)
     }
 }

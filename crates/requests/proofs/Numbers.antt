@@ -1,46 +1,48 @@
 -- Numbers that digits write.
-use Rattle.std.proofs.Common.{◌≡◌, ℕ, zero, suc, ◌+◌, ◌<◌, ◌≤◌, List, [], ◌∷◌, ◌++◌, length, get_or, take, drop, set, fold, sym, refl, ap, ◌∙◌, subst, append_assoc, arith}
-use Rattle.std.proofs.lemmas.List.{take_more_set, drop_more}
-use Rattle.requests.specs.Line.{appended, value_of, behind, Begins, Numbers}
+use Rattle.std.proofs.Common.{◌≡◌, ◌↔◌, ℕ, ◌^◌, ◌<◌, Result, List, length, get_or, fold, length-drop, arith, rules, tests}
+use Rattle.std.specs.Char.{is_ascii_digit}
+use Rattle.std.specs.Int.{IsInRange}
+use Rattle.std.specs.List.{prefix_len}
+use Rattle.std.specs.Result.{OkIff}
+use Rattle.std.specs.Str.{IsUtf8}
+use Rattle.std.specs.Str.Parse.{ParsesUnsigned}
+use Rattle.std.proofs.lemmas.Fmt.{IsAscii-from_digits}
+use Rattle.std.proofs.lemmas.List.{get_or-take}
+use Rattle.std.proofs.lemmas.List.Folds.{length-prefix_len}
+use Rattle.std.proofs.lemmas.List.Sums.{prefix_len_passes, prefix_len-le-length}
+use Rattle.std.proofs.lemmas.Str.{IsUtf8-from_ascii}
+use Rattle.std.proofs.lemmas.Str.Parse.{IsNumeralModel, numerals_by_fold, tells_by_index, parse_digits}
+use Rattle.requests.specs.Line.{appended, value_of, blank, unblanked, digits, OnlyBlanks}
 
--- more digits never make a number smaller
-value_grows : (n : ℕ) (ds : List ℕ) → n ≤ fold appended n ds
-value_grows n [] = omega arith
-value_grows n (d ∷ ds) = omega (arith, value_grows (appended n d) ds)
+-- each byte is a digit
+abbrev pub Digits : List ℕ → Type 0
+Digits ds = (i : ℕ) → i < length ds → IsInRange 48 57 (get_or ds i 0)
 
-value_split : (k n : ℕ) (ds : List ℕ) → fold appended n ds ≡ fold appended (fold appended n (take k ds)) (drop k ds)
-value_split zero n ds = refl
-value_split (suc k) n [] = refl
-value_split (suc k) n (d ∷ ds) = value_split k (appended n d) ds
+-- these are the library's digits, and their number is the library's
+pub own : IsNumeralModel Digits value_of
+own = numerals_by_fold _ tells_by_index (fold appended) (search rules)
 
--- the first digits write no more than all of them
-pub value_take : (k : ℕ) (ds : List ℕ) → value_of (take k ds) ≤ value_of ds
-value_take k ds = rw (value_split k 0 ds) (value_grows (value_of (take k ds)) (drop k ds))
+-- the first run of digits is digits
+pub digits_all : (text : List ℕ) → Digits (digits text)
+digits_all text i l =
+    let rest = unblanked text in
+    let n = prefix_len is_ascii_digit rest in
+    let within : i < n = omega (arith, length-prefix_len is_ascii_digit rest) in
+    let passes = prefix_len_passes is_ascii_digit rest i 0 within in
+    rw (get_or-take n rest i 0 within) (search (rules, tests))
 
--- a number more was read: what stands behind it, the line says after it
-pub numbers_more :
-    (line rest numbers : List ℕ) (i n : ℕ) → i < length numbers → Begins rest n
-    → ((ns : List ℕ) → Numbers rest ns → Numbers line (take i numbers ++ ns))
-    → (ns : List ℕ) → Numbers (behind rest) ns → Numbers line (take (i + 1) (set numbers i n) ++ ns)
-numbers_more line rest numbers i n l first says ns more =
-    let same : take (i + 1) (set numbers i n) ++ ns ≡ take i numbers ++ (n ∷ ns) =
-    ap (λ xs. xs ++ ns) (take_more_set numbers i n l) ∙ append_assoc (take i numbers) (n ∷ []) ns in
-    subst (λ xs. Numbers line xs) (sym same) (says (n ∷ ns) (first, more))
+-- and text
+pub digits_utf8 : (text : List ℕ) → IsUtf8 (digits text)
+digits_utf8 text = IsUtf8-from_ascii _ (IsAscii-from_digits _ (own.to _ (digits_all text)))
 
--- the first of the numbers that are left, and the others
-pub numbers_left :
-    (rest ns : List ℕ) (i : ℕ) → i < length ns → Numbers rest (drop i ns)
-    → Begins rest (get_or ns i 0) × Numbers (behind rest) (drop (i + 1) ns)
-numbers_left rest ns i l says = subst (λ xs. Numbers rest xs) (drop_more ns i 0 l) says
+-- what the library reads of them
+pub digits_parsed :
+    {E : Type 0} (text ds : List ℕ) (r : Result ℕ E) → ds ≡ digits text → ParsesUnsigned 32 10 ds r
+    → OkIff r ((0 < length (digits text)) × (value_of (digits text) < 2 ^ 32)) (value_of (digits text))
+digits_parsed text ds r same h = parse_digits own 32 (digits text) r (rw same at h) (digits_all text)
 
--- a list of six, number by number
-pub six_listed :
-    (xs : List ℕ) → length xs ≡ 6
-    → take 6 xs ++ [] ≡ get_or xs 0 0 ∷ get_or xs 1 0 ∷ get_or xs 2 0 ∷ get_or xs 3 0 ∷ get_or xs 4 0 ∷ get_or xs 5 0 ∷ []
-six_listed [] e = absurd (let z : ⊥ = omega arith in z)
-six_listed (a ∷ []) e = absurd (let z : ⊥ = omega arith in z)
-six_listed (a ∷ b ∷ []) e = absurd (let z : ⊥ = omega arith in z)
-six_listed (a ∷ b ∷ c ∷ []) e = absurd (let z : ⊥ = omega arith in z)
-six_listed (a ∷ b ∷ c ∷ d ∷ []) e = absurd (let z : ⊥ = omega arith in z)
-six_listed (a ∷ b ∷ c ∷ d ∷ f ∷ []) e = absurd (let z : ⊥ = omega arith in z)
-six_listed (a ∷ b ∷ c ∷ d ∷ f ∷ g ∷ xs) e = refl
+-- nothing is left behind blanks alone
+pub only_blanks : (text : List ℕ) → (length (unblanked text) ≡ 0) ↔ OnlyBlanks text
+only_blanks text =
+    let skipped = length-drop (prefix_len blank text) text in
+    let within = prefix_len-le-length blank text in (λ none. omega arith, λ all. omega arith)

@@ -1,22 +1,13 @@
 -- What a line of numbers says: decimal digits, with blanks between them.
-use Rattle.std.specs.Prelude.{◌≡◌, ℕ, ◌+◌, ◌-◌, ◌*◌, ◌^◌, ◌<◌, Bool, ◌&&◌, ◌||◌, List, [], ◌∷◌, length, take, drop, Ok, Err, fold, Result, ◌==◌, nat_le}
+use Rattle.std.specs.Prelude.{◌≡◌, ℕ, ◌+◌, ◌-◌, ◌*◌, ◌^◌, ◌<◌, Bool, ◌||◌, List, [], ◌∷◌, length, take, drop, Ok, Err, fold, Result, ◌==◌}
+use Rattle.std.specs.Char.{is_ascii_digit}
 use Rattle.std.specs.List.{prefix_len}
-use Rattle.requests.specs.declared.line.Kind.{Kind}
-use Rattle.requests.specs.declared.line.Kind.TheVariants.{Blank, Digit}
 use Rattle.requests.specs.declared.request.Request.{Request}
 use Rattle.requests.specs.declared.request.BadLine.{BadLine}
 
 -- a space, a tab, or an end of a line
 abbrev pub blank : ℕ → Bool
 blank b = b == 32 || b == 9 || b == 10 || b == 13
-
-abbrev pub digit : ℕ → Bool
-digit b = nat_le 48 b && nat_le b 57
-
--- a byte of a kind
-abbrev pub is : Kind → ℕ → Bool
-is Blank b = blank b
-is Digit b = digit b
 
 -- the number that digits write, the first digit the highest
 abbrev pub appended : ℕ → ℕ → ℕ
@@ -27,14 +18,14 @@ value_of ds = fold appended 0 ds
 
 -- the text behind its first blanks
 abbrev pub unblanked : List ℕ → List ℕ
-unblanked text = drop (prefix_len (is Blank) text) text
+unblanked text = drop (prefix_len blank text) text
 
 -- the first run of digits, and the text behind it
 abbrev pub digits : List ℕ → List ℕ
-digits text = take (prefix_len (is Digit) (unblanked text)) (unblanked text)
+digits text = take (prefix_len is_ascii_digit (unblanked text)) (unblanked text)
 
 abbrev pub behind : List ℕ → List ℕ
-behind text = drop (prefix_len (is Digit) (unblanked text)) (unblanked text)
+behind text = drop (prefix_len is_ascii_digit (unblanked text)) (unblanked text)
 
 -- the text begins, after blanks, with the number n
 pub record Begins (text : List ℕ) (n : ℕ) : Type 0 where
@@ -44,7 +35,7 @@ pub record Begins (text : List ℕ) (n : ℕ) : Type 0 where
 
 -- nothing but blanks
 abbrev pub OnlyBlanks : List ℕ → Type 0
-OnlyBlanks text = prefix_len (is Blank) text ≡ length text
+OnlyBlanks text = prefix_len blank text ≡ length text
 
 -- the text is these numbers, in their order, and nothing more
 abbrev pub Numbers : List ℕ → List ℕ → Type 0

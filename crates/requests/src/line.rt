@@ -1,109 +1,70 @@
 // Reading a request from a line of numbers.
-ghost use Rattle.std.specs.Prelude.{◌≡◌, ℕ, ◌^◌, ◌<◌, ◌≤◌, [], ◌∷◌, take, drop, MatchOption, MatchResult, slice_index};
-ghost use Rattle.std.specs.List.{prefix_len};
-ghost use Rattle.requests.specs.declared.request.Request.{Request};
-ghost use Rattle.requests.specs.Line.{is, value_of, behind, Begins, Numbers, listed, Parsed};
+ghost use Rattle.std.specs.Prelude.{◌≡◌, ℕ, ◌↔◌, IsTrue, MatchResult};
+ghost use Rattle.requests.specs.Line.{unblanked, OnlyBlanks, digits, behind, Begins, Parsed};
 
 use crate::request::{BadLine, Request};
+use std::str;
 
-// The bytes that matter in a line.
-#[derive(Clone, Copy)]
-enum Kind {
-    Blank,
-    Digit,
-}
-
-impl Kind {
-    fn has(self, b: u8) -> bool
-        ensures { result ≡ is self b }
-    {
-        match self {
-            Kind::Blank => b == b' ' || b == b'\t' || b == b'\n' || b == b'\r',
-            Kind::Digit => b >= b'0' && b <= b'9',
-        }
-    }
-
-    // How many bytes of this kind the text begins with.
-    fn run(self, text: &[u8]) -> usize
-        ensures { result ≡ prefix_len (is self) text.now }
-    {
-        for (i, b) in text.iter().enumerate() {
-            if !self.has(*b) {
-                return i;
-            }
-        }
-        text.len()
-    }
-
-    // The text cut behind the bytes of this kind that it begins with.
-    fn split(self, text: &[u8]) -> (&[u8], &[u8])
-        ensures front { result.0.now ≡ take (prefix_len (is self) text.now) text.now }
-        ensures back { result.1.now ≡ drop (prefix_len (is self) text.now) text.now }
-    {
-        text.split_at(self.run(text))
-    }
-}
-
-// The number that digits write; none where it does not fit.
-fn value(digits: &[u8]) -> Option<u32>
-    ensures { MatchOption result (2 ^ 32 ≤ value_of digits.now) (λ n. (n ≡ value_of digits.now) × (n < 2 ^ 32)) }
+// The text behind the blanks that it begins with: spaces, tabs and ends of lines.
+fn skip_blanks(text: &[u8]) -> &[u8]
+    ensures { result.now ≡ unblanked text.now }
 {
-    let mut n: u32 = 0;
-    for b in digits {
-        let more = 10 * n as u64 + b.saturating_sub(b'0') as u64;
-        if more > u32::MAX as u64 {
-            return None;
-        }
-        n = more as u32;
-    }
-    Some(n)
+    let blanks = text
+        .iter()
+        .take_while(|b| matches!(**b, b' ' | b'\t' | b'\n' | b'\r'))
+        .count();
+    &text[blanks..]
+}
+
+// Whether the text has nothing but blanks.
+fn is_blank(text: &[u8]) -> bool
+    ensures { IsTrue result ↔ OnlyBlanks text.now }
+{
+    skip_blanks(text).is_empty()
+}
+
+// The first run of digits, after blanks, and the text behind it.
+fn split_digits(text: &[u8]) -> (&[u8], &[u8])
+    ensures digits { result.0.now ≡ digits text.now }
+    ensures behind { result.1.now ≡ behind text.now }
+{
+    let text = skip_blanks(text);
+    text.split_at(text.iter().take_while(|b| b.is_ascii_digit()).count())
 }
 
 // The number that the text begins with, after blanks, and the text behind it.
 fn number(text: &[u8]) -> Result<(u32, &[u8]), BadLine>
     ensures { MatchResult result (λ p. Begins text.now p.0 × (p.1.now ≡ behind text.now)) (λ _. (n : ℕ) → Begins text.now n → ⊥) }
 {
-    let (_, text) = Kind::Blank.split(text);
-    let (digits, rest) = Kind::Digit.split(text);
-    if digits.is_empty() {
-        return Err(BadLine);
-    }
-    match value(digits) {
-        Some(n) => Ok((n, rest)),
-        None => Err(BadLine),
-    }
+    let (digits, rest) = split_digits(text);
+    let digits = str::from_utf8(digits).map_err(|_| BadLine)?;
+    let n = digits.parse().map_err(|_| BadLine)?;
+    Ok((n, rest))
 }
 
-// The numbers of a line that has six of them, and no more.
-fn six_numbers(line: &[u8]) -> Result<[u32; 6], BadLine>
-    ensures { MatchResult result (λ n. Numbers line.now (slice_index n 0 ∷ slice_index n 1 ∷ slice_index n 2 ∷ slice_index n 3 ∷ slice_index n 4 ∷ slice_index n 5 ∷ [])) (λ _. (q : Request) → Numbers line.now (listed q) → ⊥) }
-{
-    let mut numbers = [0; 6];
-    let mut rest = line;
-    for i in 0..6 {
-        let (n, behind) = number(rest)?;
-        numbers[i] = n;
-        rest = behind;
-    }
-    if Kind::Blank.run(rest) < rest.len() {
-        return Err(BadLine);
-    }
-    Ok(numbers)
-}
+// Six numbers with blanks between them.
+impl TryFrom<&[u8]> for Request {
+    type Error = BadLine;
 
-impl Request {
-    // Six numbers with blanks between them.
-    pub fn parse(line: &[u8]) -> Result<Request, BadLine>
-        ensures { Parsed line.now result }
-    {
-        let numbers = six_numbers(line)?;
+    ghost try_from_gives = { λ line r. Parsed line.now r };
+
+    fn try_from(line: &[u8]) -> Result<Request, BadLine> {
+        let (events, rest) = number(line)?;
+        let (resends, rest) = number(rest)?;
+        let (denominator, rest) = number(rest)?;
+        let (request, rest) = number(rest)?;
+        let (receipt, rest) = number(rest)?;
+        let (steps, rest) = number(rest)?;
+        if !is_blank(rest) {
+            return Err(BadLine);
+        }
         Ok(Request {
-            events: numbers[0],
-            resends: numbers[1],
-            denominator: numbers[2],
-            request: numbers[3],
-            receipt: numbers[4],
-            steps: numbers[5],
+            events,
+            resends,
+            denominator,
+            request,
+            receipt,
+            steps,
         })
     }
 }

@@ -24,14 +24,18 @@ impl fmt::Display for Request {
     ghost output = { λ q. Some (in_words q) };
 
     fn fmt<W: fmt::Write>(&self, f: &mut fmt::Formatter<W>) -> fmt::Result {
-        let events = self.events;
-        let resends = self.resends;
-        let d = self.denominator;
-        let a = self.request;
-        let b = self.receipt;
+        let Request {
+            events,
+            resends,
+            denominator,
+            request,
+            receipt,
+            ..
+        } = self;
         write!(
             f,
-            "Retry sheet: events {events}, resends of each {resends}. Of {d} sendings {a} lose the request and {b} the receipt."
+            "Retry sheet: events {events}, resends of each {resends}. \
+             Of {denominator} sendings {request} lose the request and {receipt} the receipt."
         )
     }
 }

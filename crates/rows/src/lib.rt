@@ -7,7 +7,7 @@ ghost use Rattle.mdp.specs.Sound.{Sound};
 ghost use Rattle.reach.specs.Reach.{Reaches};
 ghost use Rattle.rows.specs.Row.{Exact};
 
-use decimals::Decimal;
+use decimals::{Decimal, Rounding};
 use reach::Reach;
 
 mod row;
@@ -20,8 +20,8 @@ impl Row {
         ensures { (m : Model) (k : ℕ) → Bounded m → Sound m → Reaches m k reach.now → Exact m k result }
     {
         let values = reach.at(0);
-        let low = Decimal::rounded_down(values.least, values.whole)?;
-        let high = Decimal::rounded_up(values.largest, values.whole)?;
+        let low = Decimal::rounded(values.least, values.whole, Rounding::Down)?;
+        let high = Decimal::rounded(values.largest, values.whole, Rounding::Up)?;
         Some(Row { values, low, high })
     }
 }

@@ -1,5 +1,7 @@
 -- A writing fault in words.
-use Rattle.std.specs.Prelude.{ℕ, List, ◌++◌, codes, decimal}
+use Rattle.std.specs.Prelude.{ℕ, List, codes}
+use Rattle.refusals.specs.Refusal as refusal
+use Rattle.refusals.specs.declared.finder.Finder.TheVariants.{Writer}
 use Rattle.writer.specs.declared.fault.WriteFault.{WriteFault}
 use Rattle.writer.specs.declared.fault.WriteFault.TheVariants.{BadMark, BadField, NoRoom}
 use Rattle.writer.specs.Faults.{number_of, place_of}
@@ -10,8 +12,4 @@ fault_words (BadField at) = codes "no hand-in has this record there: a field is 
 fault_words NoRoom = codes "the buffer is too small"
 
 abbrev pub refusal_words : WriteFault → List ℕ
-refusal_words f =
-    codes "refused by "
-    ++ (decimal (number_of f) ++ (codes " at place "
-    ++ (decimal (place_of f) ++ (codes ": "
-    ++ (fault_words f ++ codes " (writer)")))))
+refusal_words f = refusal.refusal_words (number_of f) (place_of f) (fault_words f) Writer

@@ -2,8 +2,10 @@
 ghost use Rattle.std.specs.Prelude.{◌≡◌, Some};
 ghost use Rattle.writer.specs.Faults.{fault_of, number_of, place_of};
 ghost use Rattle.writer.specs.Words.{fault_words, refusal_words};
+ghost use Rattle.refusals.specs.declared.finder.Finder.TheVariants.{Writer};
 
 use grammar::Misfit;
+use refusals::{Finder, Refusal, write_refusal};
 use std::fmt;
 
 // Why a record is not written. Two of them have the offset at which the record would begin.
@@ -27,10 +29,20 @@ impl WriteFault {
             Misfit::BadField => WriteFault::BadField(at),
         }
     }
+}
 
-    pub fn number(&self) -> u32
-        ensures { result ≡ number_of self.now }
-    {
+impl Refusal for WriteFault {
+    type Place = usize;
+
+    ghost number = { number_of };
+
+    ghost place = { place_of };
+
+    ghost words = { fault_words };
+
+    ghost finder = { λ _. Writer };
+
+    fn number(&self) -> u32 {
         match self {
             WriteFault::BadMark(_) => 2,
             WriteFault::BadField(_) => 3,
@@ -38,19 +50,14 @@ impl WriteFault {
         }
     }
 
-    pub fn place(&self) -> usize
-        ensures { result ≡ place_of self.now }
-    {
+    fn place(&self) -> usize {
         match self {
-            WriteFault::BadMark(at) => *at,
-            WriteFault::BadField(at) => *at,
+            WriteFault::BadMark(at) | WriteFault::BadField(at) => *at,
             WriteFault::NoRoom => 0,
         }
     }
 
-    fn words(&self) -> &'static str
-        ensures { result.now ≡ fault_words self.now }
-    {
+    fn words(&self) -> &'static str {
         match self {
             WriteFault::BadMark(_) => "no hand-in has a record of this mark there",
             WriteFault::BadField(_) =>
@@ -58,15 +65,16 @@ impl WriteFault {
             WriteFault::NoRoom => "the buffer is too small",
         }
     }
+
+    fn finder(&self) -> Finder {
+        Finder::Writer
+    }
 }
 
 impl fmt::Display for WriteFault {
     ghost output = { λ f. Some (refusal_words f) };
 
     fn fmt<W: fmt::Write>(&self, f: &mut fmt::Formatter<W>) -> fmt::Result {
-        let number = self.number();
-        let place = self.place();
-        let words = self.words();
-        write!(f, "refused by {number} at place {place}: {words} (writer)")
+        write_refusal(self, f)
     }
 }
