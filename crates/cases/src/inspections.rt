@@ -22,13 +22,15 @@ struct Flat {
 }
 
 impl Source for Flat {
-    const LETTER: u8 = b'F';
-
-    ghost LETTER = { 70 };
-
     ghost meaning = { λ x. record { states = x.states; denominator = x.denominator; goal = λ s. nat_lt s x.goals && nat_lt s x.states; choices = λ s. (if nat_lt s x.states then x.choices else 0); weight = λ s c t. (if nat_lt s x.states && nat_lt c x.choices && nat_lt t x.states then x.weight else 0) } };
 
+    ghost letter = { 70 };
+
     ghost bounded = { Prim.search rules };
+
+    fn letter() -> u8 {
+        b'F'
+    }
 
     fn states(&self) -> u32 {
         self.states

@@ -11,13 +11,15 @@ use quotient::Quotient;
 struct Stairs;
 
 impl Source for Stairs {
-    const LETTER: u8 = b'S';
-
-    ghost LETTER = { 83 };
-
     ghost meaning = { λ _. record { states = 4; denominator = 1; goal = λ s. nat_lt s 4 && nat_le 2 s; choices = λ s. (if nat_lt s 4 then s + 1 else 0); weight = λ s c t. (if nat_lt s 4 && (nat_le c s && c == t) then 1 else 0) } };
 
+    ghost letter = { 83 };
+
     ghost bounded = { Prim.search rules };
+
+    fn letter() -> u8 {
+        b'S'
+    }
 
     fn states(&self) -> u32 {
         4

@@ -80,12 +80,12 @@ fn first_fault<S: Source>(source: &S) -> Option<Fault>
 
 // Whether the source's model is sound; if not, the fault of the smallest number that it has anywhere, at the lowest state.
 pub fn inspect<S: Source>(source: &S) -> Result<(), Unsound>
-    ensures { Inspected (S.Source.meaning source.now) S.Source.LETTER result }
+    ensures { Inspected (S.Source.meaning source.now) S.Source.letter result }
 {
     match first_fault(source) {
         None => Ok(()),
         Some(fault) => Err(Unsound {
-            letter: S::LETTER,
+            letter: S::letter(),
             fault,
         }),
     }

@@ -3,12 +3,13 @@ ghost use Rattle.std.specs.Prelude.{◌≡◌, ℕ};
 ghost use Rattle.mdp.specs.Model.{Model, Bounded};
 
 pub trait Source {
-    // The letter of this kind of source, which refusals of an opening name.
-    const LETTER: u8;
-
-    ghost LETTER: { ℕ };
-
     ghost meaning: { Self → Model };
+
+    // The letter of this kind of source, which refusals of an opening name. (A constant would shut out types with a lifetime.)
+    ghost letter: { ℕ };
+
+    fn letter() -> u8
+        ensures { result ≡ letter };
 
     fn states(&self) -> u32
         ensures { result ≡ (meaning self.now).states };

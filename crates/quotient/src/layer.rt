@@ -43,13 +43,15 @@ impl<S: Source> Quotient<S> {
 }
 
 impl<S: Source> Source for Quotient<S> {
-    const LETTER: u8 = b'Q';
-
-    ghost LETTER = { 81 };
-
     ghost meaning = { λ q. layer (S.Source.meaning q.below) q.classes };
 
+    ghost letter = { 81 };
+
     ghost bounded = { Prim.search rules };
+
+    fn letter() -> u8 {
+        b'Q'
+    }
 
     fn states(&self) -> u32 {
         self.classes.as_ref().map_or(0, |classes| classes.count)

@@ -85,13 +85,15 @@ pub fn sheet_a() -> Sheet
 }
 
 impl Source for Sheet {
-    const LETTER: u8 = b'R';
-
-    ghost LETTER = { 82 };
-
     ghost meaning = { retried };
 
+    ghost letter = { 82 };
+
     ghost bounded = { bounded };
+
+    fn letter() -> u8 {
+        b'R'
+    }
 
     fn states(&self) -> u32 {
         self.lawful().map_or(0, Lawful::states)

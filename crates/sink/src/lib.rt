@@ -38,13 +38,15 @@ impl<S: Source> Sink<S> {
 }
 
 impl<S: Source> Source for Sink<S> {
-    const LETTER: u8 = b'K';
-
-    ghost LETTER = { 75 };
-
     ghost meaning = { λ k. sinked (S.Source.meaning k.below) };
 
+    ghost letter = { 75 };
+
     ghost bounded = { Prim.search rules };
+
+    fn letter() -> u8 {
+        b'K'
+    }
 
     fn states(&self) -> u32 {
         self.below.states()

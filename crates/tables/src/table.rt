@@ -41,13 +41,15 @@ impl<'a> Table<Lent<'a>> {
 }
 
 impl<R: Rows> Source for Table<R> {
-    const LETTER: u8 = b'T';
-
-    ghost LETTER = { 84 };
-
     ghost meaning = { λ x. tabled (R.Rows.held x.rows) };
 
+    ghost letter = { 84 };
+
     ghost bounded = { λ x. Bounds.bounded (R.Rows.held x.rows) };
+
+    fn letter() -> u8 {
+        b'T'
+    }
 
     fn states(&self) -> u32 {
         self.rows.lent().states.len() as u32
