@@ -30,24 +30,6 @@ impl Count {
     }
 }
 
-fn print_branches(rt: &impl Print, entries: &[u8]) -> io::Result<()> {
-    for Branch { target, weight } in branches(entries) {
-        println!(rt; "         to {target}: weight {weight}")?;
-    }
-    Ok(())
-}
-
-fn print_portions(rt: &impl Print, entries: &[u8]) -> io::Result<()> {
-    for Portion {
-        target,
-        high,
-        amount,
-    } in portions(entries) {
-        println!(rt; "         to {target} and high {high}: amount {amount}")?;
-    }
-    Ok(())
-}
-
 fn print_row(rt: &impl Print, state: u16, row: u64) -> io::Result<()> {
     if row == 0 {
         return println!(rt; "RW state {state}: related to nothing");
@@ -76,33 +58,49 @@ fn print_head(rt: &impl Print, kind: u8, side: u8) -> io::Result<()> {
     println!(rt; "HD kind {kind} ({word}), side {side} ({book})")
 }
 
-// A record of a model file.
-fn print_model_record(rt: &impl Print, item: Record<'_>, count: Count) -> io::Result<()> {
+fn print_state(rt: &impl Print, state: usize, goal: u8, choices: u16) -> io::Result<()> {
+    let mark = if goal == 1 { "goal" } else { "no goal" };
+    println!(rt; "ST state {state}: {mark}, choices {choices}")
+}
+
+fn print_choice(rt: &impl Print, count: Count, entries: &[u8]) -> io::Result<()> {
     // A choice belongs to the state that came last.
-    let last = count.state.saturating_sub(1);
-    let state = count.state;
+    let state = count.state.saturating_sub(1);
     let choice = count.choice;
+    let targets = branches(entries).len();
+    println!(rt; "CH state {state}, choice {choice}: targets {targets}")?;
+    for Branch { target, weight } in branches(entries) {
+        println!(rt; "         to {target}: weight {weight}")?;
+    }
+    Ok(())
+}
+
+// The entries of a WF, behind its other fields.
+fn print_portions(rt: &impl Print, entries: &[u8]) -> io::Result<()> {
+    let count = portions(entries).len();
+    println!(rt; "entries {count}")?;
+    for Portion {
+        target,
+        high,
+        amount,
+    } in portions(entries) {
+        println!(rt; "         to {target} and high {high}: amount {amount}")?;
+    }
+    Ok(())
+}
+
+fn print_record(rt: &impl Print, offset: usize, item: Record<'_>, count: Count) -> io::Result<()> {
+    print!(rt; "{offset:>6} ")?;
     match item {
         Record::Md {
             states,
             denominator,
         } => println!(rt; "MD states {states}, denominator {denominator}"),
-        Record::St { goal, choices } => {
-            let mark = if goal == 1 { "goal" } else { "no goal" };
-            println!(rt; "ST state {state}: {mark}, choices {choices}")
-        }
-        Record::Ch { entries } => {
-            let targets = branches(entries).len();
-            println!(rt; "CH state {last}, choice {choice}: targets {targets}")?;
-            print_branches(rt, entries)
-        }
-        _ => Ok(()),
-    }
-}
-
-// A record of a link.
-fn print_link_record(rt: &impl Print, item: Record<'_>) -> io::Result<()> {
-    match item {
+        Record::St { goal, choices } => print_state(rt, count.state, goal, choices),
+        Record::Ch { entries } => print_choice(rt, count, entries),
+        Record::Hd { kind, side } => print_head(rt, kind, side),
+        Record::Ce { state, claim } => println!(rt; "CE state {state}: ceiling {claim}"),
+        Record::Fl { state, claim } => println!(rt; "FL state {state}: floor {claim}"),
         Record::Pc { state, class } => println!(rt; "PC state {state}: class {class}"),
         Record::Pm {
             state,
@@ -117,34 +115,15 @@ fn print_link_record(rt: &impl Print, item: Record<'_>) -> io::Result<()> {
             matched,
             entries,
         } => {
-            let count = portions(entries).len();
-            println!(rt;
-                "WF state {state}, high state {high}, choice {choice}: match {matched}, entries {count}"
-            )?;
+            print!(rt; "WF state {state}, high state {high}, choice {choice}: match {matched}, ")?;
             print_portions(rt, entries)
-        }
-        _ => Ok(()),
-    }
-}
-
-fn print_record(rt: &impl Print, offset: usize, item: Record<'_>, count: Count) -> io::Result<()> {
-    print!(rt; "{offset:>6} ")?;
-    match item {
-        Record::Md { .. } | Record::St { .. } | Record::Ch { .. } => {
-            print_model_record(rt, item, count)
-        }
-        Record::Hd { kind, side } => print_head(rt, kind, side),
-        Record::Ce { state, claim } => println!(rt; "CE state {state}: ceiling {claim}"),
-        Record::Fl { state, claim } => println!(rt; "FL state {state}: floor {claim}"),
-        Record::Pc { .. } | Record::Pm { .. } | Record::Rw { .. } | Record::Wf { .. } => {
-            print_link_record(rt, item)
         }
         Record::Zz => println!(rt; "ZZ end"),
     }
 }
 
-// Prints the records up to the end of the unit or its fault, and answers which.
-fn print_records(rt: &impl Print, mut reader: Reader<'_>) -> io::Result<Result<usize, ReadFault>> {
+// Prints the records up to the end of the unit or its fault, and answers whether that is the end of the bytes, or the fault.
+fn print_records(rt: &impl Print, mut reader: Reader<'_>) -> io::Result<Result<(), ReadFault>> {
     let mut count = Count::default();
     loop {
         match reader.next() {
@@ -152,7 +131,7 @@ fn print_records(rt: &impl Print, mut reader: Reader<'_>) -> io::Result<Result<u
                 print_record(rt, offset, item, count)?;
                 count = count.after(item);
             }
-            Ok(None) => return Ok(Ok(reader.offset())),
+            Ok(None) => return Ok(reader.finish_all()),
             Err(fault) => return Ok(Err(fault)),
         }
     }
@@ -169,13 +148,11 @@ fn print_file(rt: &impl Print, bytes: &[u8]) -> io::Result<()> {
         ),
     };
     println!(rt; "{words}")?;
-    let length = bytes.len();
     match print_records(rt, reader)? {
-        Ok(behind) if behind < length => {
-            let surplus = ReadFault::Surplus(behind);
-            println!(rt; "{surplus}")
+        Ok(()) => {
+            let length = bytes.len();
+            println!(rt; "read whole: {length} bytes")
         }
-        Ok(_) => println!(rt; "read whole: {length} bytes"),
         Err(fault) => println!(rt; "{fault}"),
     }
 }

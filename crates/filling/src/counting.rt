@@ -40,6 +40,7 @@ pub(crate) fn count(bytes: &[u8]) -> Result<Filled, ReadFault>
     while let Some((_, item)) = reader.next()? {
         counts = tally(counts, item);
     }
+    // `finish_all` is no plainer here: the loop would have to carry that the reader's bytes stay the same.
     let behind = reader.offset();
     if behind < bytes.len() {
         return Err(ReadFault::Surplus(behind));

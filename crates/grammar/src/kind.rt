@@ -36,7 +36,7 @@ impl TryFrom<u8> for Kind {
 }
 
 impl Kind {
-    // Whether a hand-in of this kind may be for that side: 0 the low or 1 the high book.
+    // Whether a hand-in of this kind may be for that side: 0 the low or 1 the high book. It is the byte of the record, which may be any.
     pub(crate) fn may_be_for(self, side: u8) -> bool
         ensures { result ≡ head_ok (number_of self) side }
     {

@@ -6,10 +6,11 @@ ghost use Rattle.grammar.specs.Kind.{key_of};
 use crate::kind::Kind;
 use records::Record;
 
-// What a record is ordered by: its block in the hand-in, then its state, high state and choice, 0 for what it does not have. The default
-// comes before the key of every record.
+// What a record is ordered by: its block in the hand-in, then its state, high state and choice, 0 for what it does not have: keys are only
+// compared, and an Option would be no plainer there. The default comes before the key of every record.
 #[derive(Clone, Copy, Default, PartialEq, Eq, PartialOrd, Ord)]
 pub struct Key {
+    // A number, for blocks are compared: the first is 1, the second 2, and the default's 0 comes before both.
     pub(crate) block: u8,
     state: u16,
     high: u8,

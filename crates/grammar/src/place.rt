@@ -81,7 +81,7 @@ impl Place {
     }
 
     // The place behind a record of an allowed mark; None where a field is out of its range, or the order does not ascend.
-    pub(crate) fn behind(self, item: Record<'_>) -> Option<Place>
+    pub fn behind(self, item: Record<'_>) -> Option<Place>
         ensures { result ≡ behind self (content item.entry) }
     {
         match (self, item) {

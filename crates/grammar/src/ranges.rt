@@ -13,6 +13,7 @@ const UNIT: u32 = 1048576;
 pub(crate) fn branches_ok(entries: &[u8], n: u16) -> bool
     ensures { result ≡ branches_ok n 0 (branches entries.now) }
 {
+    // It goes by the least target that may be next, as the definition does, so the first entry needs no case of its own.
     let mut least: u32 = 0;
     for branch in branches(entries) {
         if (branch.target as u32) < least || branch.target >= n || branch.weight == 0 {
@@ -33,6 +34,7 @@ fn portion_precedes(first: Portion, second: Portion) -> bool
 fn portions_ok(entries: &[u8]) -> bool
     ensures { result ≡ portions_ok (portions entries.now) }
 {
+    // It goes by the last entry, as the definition does: a pair of targets has no plain next one to be the least.
     let mut last: Option<Portion> = None;
     for portion in portions(entries) {
         if portion.amount == 0 || last.is_some_and(|last| !portion_precedes(last, portion)) {

@@ -1,27 +1,19 @@
 -- The reading of a unit, one record at a time.
-use Rattle.std.proofs.Common.{◌≡◌, ℕ, zero, suc, ◌+◌, ◌-◌, ◌≤◌, Bool, true, false, cond, ◌&&◌, ltb, List, [], ◌∷◌, ◌++◌, length, Some, Ok, Err, Option, Result, is_ok, sym, refl, ap, ◌∙◌, subst, append_assoc, arith}
-use Rattle.std.specs.Result.{MatchResult, IsErrAnd}
-use Rattle.std.proofs.lemmas.Bool.{lt-ltb, le-ltb, ltb-false, cond_both, cond-true, cond-false, and_parts, true≢false}
-use Rattle.std.proofs.lemmas.Result.{err_from_is_err_and}
+use Rattle.std.proofs.Common.{◌≡◌, ℕ, zero, suc, ◌+◌, ◌-◌, ◌≤◌, true, false, cond, ltb, List, [], ◌∷◌, ◌++◌, length, Some, None, Ok, Err, Option, Result, is_some, sym, refl, ap, ◌∙◌, subst, append_assoc, arith}
+use Rattle.std.proofs.lemmas.Bool.{lt-ltb, le-ltb, ltb-false, cond_both, cond-true, cond-false, true≢false}
 use Rattle.records.specs.declared.content.Mark.{Mark}
 use Rattle.records.specs.declared.content.Mark.TheVariants.{Md}
 use Rattle.records.specs.declared.decoding.NoMark.{NoMark}
 use Rattle.records.specs.declared.decoding.NoMark.TheVariants.{Cut, Unknown}
-use Rattle.records.specs.Content.{Content, mark_of}
+use Rattle.records.specs.Content.{Content}
 use Rattle.records.specs.Decode.{size, decoded}
 use Rattle.records.specs.declared.content.Record.{Record}
-use Rattle.records.specs.Held.{content, whole, mark_at, Decodes}
-use Rattle.records.proofs.Exactness.{mark_decoded}
+use Rattle.records.specs.Held.{content, mark_at}
 use Rattle.grammar.specs.declared.place.Place.{Place}
-use Rattle.grammar.specs.declared.step.Misfit.{Misfit}
-use Rattle.grammar.specs.declared.step.Misfit.TheVariants.{BadMark, BadField}
-use Rattle.grammar.specs.Step.{step}
 use Rattle.grammar.specs.Place.{allowed, fits, after, over}
-use Rattle.reader.specs.declared.fault.ReadFault.{ReadFault}
 use Rattle.reader.specs.declared.reading.Reader.{Reader}
 use Rattle.reader.specs.Answer.{rest_of, Next}
 use Rattle.reader.specs.Exact.{stopped, fault, Reading, read, prefixed}
-use Rattle.reader.specs.Faults.{fault_of_misfit, number_of, place_of}
 use Rattle.reader.specs.Reading.{Outcome, got, refused, at_mark, record_at, next_of, read_from, reading}
 
 -- where a record that was read lies
@@ -104,32 +96,6 @@ prefixed_none (read rs e) = refl
 pub prefixed_twice : (ds es : List Content) (v : Reading) → prefixed ds (prefixed es v) ≡ prefixed (ds ++ es) v
 prefixed_twice ds es (read rs e) = ap (λ ts. read ts e) (sym (append_assoc ds es rs))
 
--- a result whose error was mapped
-pub map_err-ok : {T E D : Type 0} (r : Result T E) (s : Result T D) (P : E → Type 0) (x : T) → MatchResult r (λ y. s ≡ Ok y) P → is_ok s ≡ is_ok r → s ≡ Ok x → r ≡ Ok x
-map_err-ok (Ok y) s P x c v e = cc
-map_err-ok (Err d) s P x c v e = absurd (true≢false (sym (ap is_ok e) ∙ v))
-
--- what a step that was accepted says
-pub step_ok : (p q : Place) (w : Bool) (r : Content) → Ok q ≡ step p w r → (fits p r ≡ true) × (q ≡ after p r)
-step_ok p q w r e = by_mark (allowed p (mark_of r)) e
-  where
-    by_fields : (b : Bool) → (w && fits p r) ≡ b → Ok q ≡ cond b (Ok (after p r)) (Err BadField) → (fits p r ≡ true) × (q ≡ after p r)
-    by_fields true h g = ((and_parts w (fits p r) h).1, cc)
-    by_fields false h g = absurd (cc)
-
-    by_mark : (b : Bool) → Ok q ≡ cond b (cond (w && fits p r) (Ok (after p r)) (Err BadField)) (Err BadMark) → (fits p r ≡ true) × (q ≡ after p r)
-    by_mark true g = by_fields (w && fits p r) refl g
-    by_mark false g = absurd (cc)
-
--- a step that was refused where the mark is allowed and the entries are whole
-step_refused : (p : Place) (w : Bool) (r : Content) (m : Misfit) → allowed p (mark_of r) ≡ true → w ≡ true → Err m ≡ step p w r → (m ≡ BadField) × (fits p r ≡ false)
-step_refused p w r m a t e =
-    by_fields (fits p r) refl (e ∙ cond-true (allowed p (mark_of r)) _ _ a ∙ ap (λ b. cond (b && fits p r) (Ok (after p r)) (Err BadField)) t)
-  where
-    by_fields : (b : Bool) → fits p r ≡ b → Err m ≡ cond b (Ok (after p r)) (Err BadField) → (m ≡ BadField) × (b ≡ false)
-    by_fields true h g = absurd (cc)
-    by_fields false h g = (cc, refl)
-
 -- a record that stands there and is allowed there
 module _ (p : Place) (xs : List ℕ) (at : ℕ) (m : Mark) (k : Ok m ≡ mark_at xs at) (a : allowed p m ≡ true) where
   pub record_reached : (r : Content) → at + size m xs at ≤ length xs → r ≡ decoded m xs at → record_at p xs at ≡ cond (fits p r) (got r (at + size m xs at)) (refused 3 at)
@@ -142,18 +108,11 @@ module _ (p : Place) (xs : List ℕ) (at : ℕ) (m : Mark) (k : Ok m ≡ mark_at
   pub record_got : (r : Content) (next : ℕ) → at + size m xs at ≤ length xs → r ≡ decoded m xs at → next ≡ at + size m xs at → fits p r ≡ true → got r next ≡ record_at p xs at
   record_got r next s d n f = sym (record_reached r s d ∙ cond-true (fits p r) _ _ f ∙ ap (got r) (sym n))
 
-  -- the fault of a record that does not fit
-  pub record_refused : (item : Record) (next : ℕ) → Decodes xs at m (Some (item, next)) → (s : Result Place Misfit) → s ≡ step p (whole item) (content item) → (t : Result Place ReadFault) (Q : Misfit → ReadFault → Type 0) → ((e : Misfit) (f : ReadFault) → Q e f → f ≡ fault_of_misfit e at) → MatchResult s (λ q. t ≡ Ok q) (λ e. IsErrAnd t (Q e)) → (f : ReadFault) → t ≡ Err f → refused (number_of f) (place_of f) ≡ record_at p xs at
-  record_refused item next d (Ok q) e t Q w c f g = absurd (cc)
-  record_refused item next d (Err n) e t Q w c f g =
-      let r = content item in
-      let marked : mark_of r ≡ m = ap mark_of d.1 ∙ mark_decoded m xs at in
-      let o = step_refused p (whole item) r n (ap (allowed p) marked ∙ a) d.3 e in
-      let y = err_from_is_err_and t c in
-      let same : f ≡ y.0 = cc in
-      ap (λ x. refused (number_of x) (place_of x)) (same ∙ w n y.0 y.2 ∙ ap (λ x. fault_of_misfit x at) o.0)
-      ∙ sym (record_reached r d.0 d.1 ∙ cond-false (fits p r) _ _ o.1)
-
 -- what a reader that gave a record says of what is left
 pub next_some : (r s : Reader) (o : Option (ℕ × Record)) (x : ℕ × Record) → o ≡ Some x → Next r s (Ok o) → rest_of r ≡ prefixed (content x.1 ∷ []) (rest_of s)
 next_some r s o x e h = let t : Next r s (Ok (Some x)) = subst (λ q. Next r s (Ok q)) e h in t.0
+
+-- the same of a reader that is only known to have given one
+pub next_more : (r s : Reader) (o : Option (ℕ × Record)) → is_some o ≡ true → Next r s (Ok o) → (d : Content) × (rest_of r ≡ prefixed (d ∷ []) (rest_of s))
+next_more r s (Some x) i h = (content x.1, h.0)
+next_more r s None i h = absurd (true≢false (sym i))

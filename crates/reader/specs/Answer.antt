@@ -31,6 +31,13 @@ abbrev pub ReadOn : Reader → Result ℕ ReadFault → Type 0
 ReadOn r (Ok behind) = (rs : List Content) × (rest_of r ≡ read rs (stopped behind))
 ReadOn r (Err f) = (rs : List Content) × (rest_of r ≡ read rs (fault (number_of f) (place_of f)))
 
+-- A unit was read to its end, which is the end of the bytes; or its fault, or 4 at the byte that follows.
+abbrev pub Alone : Reader → Result (Unit {0}) ReadFault → Type 0
+Alone r (Ok u) = (rs : List Content) × (behind : ℕ) × (rest_of r ≡ read rs (stopped behind)) × (length r.bytes.now ≤ behind)
+Alone r (Err f) =
+    ((rs : List Content) × (rest_of r ≡ read rs (fault (number_of f) (place_of f))))
+    ⊎ ((number_of f ≡ 4) × ((rs : List Content) × (rest_of r ≡ read rs (stopped (place_of f)))) × (place_of f < length r.bytes.now))
+
 -- The bytes are a file of some records and nothing more, or the first fault is named.
 abbrev pub ReadsWhole : (List Content → Type 0) → List ℕ → Result (Unit {0}) ReadFault → Type 0
 ReadsWhole W xs (Ok u) = (rs : List Content) × Reads W xs 0 (length xs) rs
@@ -42,13 +49,6 @@ pub record Sole (W : List Content → Type 0) (xs : List ℕ) (a : Result (Unit 
   pub only : (other : Result (Unit {0}) ReadFault) → ReadsWhole W xs other → other ≡ a
 
 -- The rest is for the functions that these calls are made of.
-
--- the unit of a new reader is all that there is; else its fault, or a byte that follows
-abbrev pub Alone : Reader → Result (Unit {0}) ReadFault → Type 0
-Alone r (Ok u) = (rs : List Content) × (behind : ℕ) × (rest_of r ≡ read rs (stopped behind)) × (length r.bytes.now ≤ behind)
-Alone r (Err f) =
-    ((rs : List Content) × (rest_of r ≡ read rs (fault (number_of f) (place_of f))))
-    ⊎ ((number_of f ≡ 4) × ((rs : List Content) × (rest_of r ≡ read rs (stopped (place_of f)))) × (place_of f < length r.bytes.now))
 
 -- the record that stands at a reader, and the reader behind it
 abbrev pub outcome : Result (Record × Reader) ReadFault → Outcome

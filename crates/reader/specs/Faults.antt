@@ -2,8 +2,6 @@
 use Rattle.std.specs.Prelude.{ℕ}
 use Rattle.records.specs.declared.decoding.NoMark.{NoMark}
 use Rattle.records.specs.declared.decoding.NoMark.TheVariants.{Cut, Unknown}
-use Rattle.grammar.specs.declared.step.Misfit as misfit
-use Rattle.grammar.specs.declared.step.Misfit.{Misfit}
 use Rattle.reader.specs.declared.fault.ReadFault.{ReadFault}
 use Rattle.reader.specs.declared.fault.ReadFault.TheVariants.{Ends, BadMark, BadField, Surplus}
 
@@ -19,11 +17,7 @@ place_of (BadMark at) = at
 place_of (BadField at) = at
 place_of (Surplus at) = at
 
--- the fault of a record at the offset, by why it has no mark or cannot stand there
+-- the fault of a record at the offset, by why it has no mark
 abbrev pub fault_of_mark : NoMark → ℕ → ReadFault
 fault_of_mark Cut at = Ends at
 fault_of_mark Unknown at = BadMark at
-
-abbrev pub fault_of_misfit : Misfit → ℕ → ReadFault
-fault_of_misfit misfit.TheVariants.BadMark at = BadMark at
-fault_of_misfit misfit.TheVariants.BadField at = BadField at

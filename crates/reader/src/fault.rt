@@ -1,10 +1,9 @@
 // What bytes are refused by that are no readable file: the number, the place, and the words.
 ghost use Rattle.std.specs.Prelude.{◌≡◌, Some};
-ghost use Rattle.reader.specs.Faults.{fault_of_mark, fault_of_misfit, number_of, place_of};
+ghost use Rattle.reader.specs.Faults.{fault_of_mark, number_of, place_of};
 ghost use Rattle.reader.specs.Words.{fault_words, refusal_words};
 ghost use Rattle.refusals.specs.declared.finder.Finder.TheVariants.{Reader};
 
-use grammar::Misfit;
 use records::NoMark;
 use refusals::{Finder, Refusal, write_refusal};
 use std::fmt;
@@ -30,16 +29,6 @@ impl ReadFault {
         match none {
             NoMark::Cut => ReadFault::Ends(at),
             NoMark::Unknown => ReadFault::BadMark(at),
-        }
-    }
-
-    // The fault of a record at an offset where it cannot stand.
-    pub(crate) fn of_misfit(misfit: Misfit, at: usize) -> ReadFault
-        ensures { result ≡ fault_of_misfit misfit at }
-    {
-        match misfit {
-            Misfit::BadMark => ReadFault::BadMark(at),
-            Misfit::BadField => ReadFault::BadField(at),
         }
     }
 }

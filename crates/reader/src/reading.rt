@@ -66,9 +66,7 @@ impl<'a> Reader<'a> {
             return Err(ReadFault::BadMark(at));
         }
         let (item, next) = decode(bytes, at, mark).ok_or(ReadFault::Ends(at))?;
-        let behind = place
-            .step(item)
-            .map_err(|misfit| ReadFault::of_misfit(misfit, at))?;
+        let behind = place.behind(item).ok_or(ReadFault::BadField(at))?;
         Ok((
             item,
             Reader {
@@ -104,12 +102,12 @@ impl<'a> Reader<'a> {
     pub fn finish(mut self) -> Result<usize, ReadFault>
         ensures { ReadOn self.entry result }
     {
-        while let Some(_) = self.next()? {}
+        while self.next()?.is_some() {}
         Ok(self.at)
     }
 
     // Reads on to the end of the unit, which is to be the end of the bytes.
-    fn finish_all(self) -> Result<(), ReadFault>
+    pub fn finish_all(self) -> Result<(), ReadFault>
         ensures { Alone self.entry result }
     {
         let behind = self.finish()?;

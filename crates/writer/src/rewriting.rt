@@ -39,11 +39,11 @@ pub fn rewrite(bytes: &[u8], buffer: &mut [u8]) -> Result<usize, RewriteFault>
     ensures err { IfErr result (NotRewritten bytes.now buffer.old) }
     ensures kept { OnErr result (buffer.new ≡ buffer.old) }
 {
-    let behind = Reader::hand_in(bytes, 0).finish()?;
-    if behind > buffer.len() {
-        return Err(RewriteFault::Writing(WriteFault::NoRoom));
-    }
     let mut reader = Reader::hand_in(bytes, 0);
+    let behind = reader.finish()?;
+    if behind > buffer.len() {
+        return Err(WriteFault::NoRoom.into());
+    }
     let mut writer = Writer::new(buffer);
     while let Some(item) = reader.next_record() {
         writer.put(item)?;
