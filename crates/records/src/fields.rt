@@ -60,7 +60,7 @@ impl<'a> Fields<'a> {
         ensures { ReadsEntries size self.old result self.new }
     {
         let mut behind = *self;
-        let len = size * behind.u16()? as usize;
+        let len = size * usize::from(behind.u16()?);
         let entries = behind.bytes[behind.at..].get(..len)?;
         behind.at += len;
         *self = behind;
