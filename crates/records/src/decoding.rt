@@ -1,5 +1,5 @@
 // One record out of a caller's bytes: first its mark, then its fields. Nothing is copied but numbers.
-ghost use Rattle.std.specs.Prelude.{◌≡◌, slice_index};
+ghost use Rattle.std.specs.Prelude.{◌≡◌, ◌-◌, ◌≤◌, length, slice_index};
 ghost use Rattle.records.specs.Decode.{mark_spelled};
 ghost use Rattle.records.specs.Held.{Decodes, Stands, known, mark_at};
 ghost use Rattle.records.specs.declared.content.Mark.TheVariants.{Ch, Wf};
@@ -46,72 +46,76 @@ pub fn mark_at(bytes: &[u8], at: usize) -> Result<Mark, NoMark>
     Mark::try_from(*letters)
 }
 
-fn decode_ch<'a>(bytes: &'a [u8], at: usize) -> Option<(Record<'a>, usize)>
-    ensures { Decodes bytes.now at Ch result }
-{
-    let mut fields = Fields::behind_mark(bytes, at)?;
-    let entries = fields.entries(BRANCH_SIZE)?;
-    Some((Record::Ch { entries }, fields.at))
-}
+// The fields of one record, which stand behind its mark.
+impl<'a> Fields<'a> {
+    fn ch(mut self) -> Option<(Record<'a>, usize)>
+        requires { 2 ≤ self.at }
+        ensures { Decodes self.entry.bytes.now (self.entry.at - 2) Ch result }
+    {
+        let entries = self.entries(BRANCH_SIZE)?;
+        Some((Record::Ch { entries }, self.at))
+    }
 
-fn decode_wf<'a>(bytes: &'a [u8], at: usize) -> Option<(Record<'a>, usize)>
-    ensures { Decodes bytes.now at Wf result }
-{
-    let mut fields = Fields::behind_mark(bytes, at)?;
-    let item = Record::Wf {
-        state: fields.u16()?,
-        high: fields.u8()?,
-        choice: fields.u16()?,
-        matched: fields.u16()?,
-        entries: fields.entries(PORTION_SIZE)?,
-    };
-    Some((item, fields.at))
-}
+    fn wf(mut self) -> Option<(Record<'a>, usize)>
+        requires { 2 ≤ self.at }
+        ensures { Decodes self.entry.bytes.now (self.entry.at - 2) Wf result }
+    {
+        let item = Record::Wf {
+            state: self.u16()?,
+            high: self.u8()?,
+            choice: self.u16()?,
+            matched: self.u16()?,
+            entries: self.entries(PORTION_SIZE)?,
+        };
+        Some((item, self.at))
+    }
 
-// The record of that mark at `at`, whatever letters stand there, and where it ends; None where its fields are not all there.
-fn decode_fields<'a>(bytes: &'a [u8], at: usize, mark: Mark) -> Option<(Record<'a>, usize)>
-    ensures { Decodes bytes.now at mark result }
-{
-    let mut fields = Fields::behind_mark(bytes, at)?;
-    let item = match mark {
-        Mark::Ch => return decode_ch(bytes, at),
-        Mark::Wf => return decode_wf(bytes, at),
-        Mark::Md => Record::Md {
-            states: fields.u16()?,
-            denominator: fields.u16()?,
-        },
-        Mark::St => Record::St {
-            goal: fields.u8()?,
-            choices: fields.u16()?,
-        },
-        Mark::Hd => Record::Hd {
-            kind: fields.u8()?,
-            side: fields.u8()?,
-        },
-        Mark::Ce => Record::Ce {
-            state: fields.u16()?,
-            claim: fields.u32()?,
-        },
-        Mark::Fl => Record::Fl {
-            state: fields.u16()?,
-            claim: fields.u32()?,
-        },
-        Mark::Pc => Record::Pc {
-            state: fields.u16()?,
-            class: fields.u8()?,
-        },
-        Mark::Pm => Record::Pm {
-            state: fields.u16()?,
-            choice: fields.u16()?,
-            matched: fields.u16()?,
-        },
-        Mark::Rw => Record::Rw {
-            state: fields.u16()?,
-            row: fields.u64()?,
-        },
-        Mark::Zz => Record::Zz,
-    };
-    Some((item, fields.at))
+    // The record of that mark, whatever letters stand there, and where it ends; None where its fields are not all there.
+    fn record(mut self, mark: Mark) -> Option<(Record<'a>, usize)>
+        requires mark { 2 ≤ self.at }
+        requires there { self.at ≤ length self.bytes.now }
+        ensures { Decodes self.entry.bytes.now (self.entry.at - 2) mark result }
+    {
+        let item = match mark {
+            Mark::Ch => return self.ch(),
+            Mark::Wf => return self.wf(),
+            Mark::Md => Record::Md {
+                states: self.u16()?,
+                denominator: self.u16()?,
+            },
+            Mark::St => Record::St {
+                goal: self.u8()?,
+                choices: self.u16()?,
+            },
+            Mark::Hd => Record::Hd {
+                kind: self.u8()?,
+                side: self.u8()?,
+            },
+            Mark::Ce => Record::Ce {
+                state: self.u16()?,
+                claim: self.u32()?,
+            },
+            Mark::Fl => Record::Fl {
+                state: self.u16()?,
+                claim: self.u32()?,
+            },
+            Mark::Pc => Record::Pc {
+                state: self.u16()?,
+                class: self.u8()?,
+            },
+            Mark::Pm => Record::Pm {
+                state: self.u16()?,
+                choice: self.u16()?,
+                matched: self.u16()?,
+            },
+            Mark::Rw => Record::Rw {
+                state: self.u16()?,
+                row: self.u64()?,
+            },
+            Mark::Zz => Record::Zz,
+        };
+        Some((item, self.at))
+    }
 }
 
 // The record of that mark at `at`, and where it ends; None where the bytes end before it does.
@@ -119,5 +123,5 @@ pub fn decode<'a>(bytes: &'a [u8], at: usize, mark: Mark) -> Option<(Record<'a>,
     ensures value { Decodes bytes.now at mark result }
     ensures exact { Stands bytes.now at mark result }
 {
-    decode_fields(bytes, at, mark)
+    Fields::behind_mark(bytes, at)?.record(mark)
 }

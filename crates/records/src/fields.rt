@@ -57,7 +57,8 @@ impl<'a> Fields<'a> {
     // The number of entries of that size, and their bytes.
     pub(crate) fn entries(&mut self, size: usize) -> Option<&'a [u8]>
         requires { size < 65536 }
-        ensures { ReadsEntries size self.old result self.new }
+        ensures entries { ReadsEntries size self.old result self.new }
+        ensures few { IfSome result (λ entries. be2 self.old.bytes.now self.old.at < 65536) }
     {
         let mut behind = *self;
         let len = size * usize::from(behind.u16()?);
