@@ -6,7 +6,9 @@ use Rattle.std.proofs.lemmas.Bool.{and_parts, eqb-true, ltb-true}
 use Rattle.records.specs.declared.content.Record.{Record}
 use Rattle.records.specs.declared.content.Record.TheVariants.{Ch, Wf}
 use Rattle.records.specs.Decode.{entries_from, branch_from, portion_from}
-use Rattle.records.specs.Encode.{two, encode, branch_bytes, portion_bytes, Fits}
+use Rattle.records.specs.declared.content.Mark.{Mark}
+use Rattle.records.specs.Content.{mark_of}
+use Rattle.records.specs.Encode.{two, encode, branch_bytes, portion_bytes, Fits, first_letter, second_letter}
 use Rattle.records.specs.Held.{content, whole}
 use Rattle.records.proofs.EntryLists.{entries_again, length-entries, length-flat_map}
 use Rattle.records.proofs.Exactness.{branch_width, branch_again, branches_fit, portion_width, portion_again, portions_fit}
@@ -72,6 +74,13 @@ module _ {r : Record} {s h c m : ℕ} {es : Bor (List ℕ)} (is : r ≡ Wf s h c
     wf_fits x y z u =
         let n = length-entries 5 portion_from (length es.now / 5) es.now 0 in
         subst (λ r. Fits (content r)) (sym is) (x, y, z, u, omega (arith, wf_entries.few), portions_fit es.now small (length es.now / 5) 0)
+
+-- the letters of a record's mark
+abbrev pub spelled : Mark → List ℕ
+spelled m = first_letter m ∷ second_letter m ∷ []
+
+pub letters_of : {ls : List ℕ} {m : Mark} {r s : Record} → ls ≡ spelled m → m ≡ mark_of (content r) → r ≡ s → ls ≡ spelled (mark_of (content s))
+letters_of l e is = l ∙ ap spelled (e ∙ ap (λ r. mark_of (content r)) is)
 
 -- what stands behind a head in bytes is bytes
 pub small_behind : (head xs ys : List ℕ) → ys ≡ head ++ (xs ++ []) → ((j : ℕ) → get_or ys j 0 < 256) → (j : ℕ) → get_or xs j 0 < 256

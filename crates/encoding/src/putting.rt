@@ -1,10 +1,10 @@
 // One record into a caller's buffer. Bytes before it and behind it stay as they are.
 ghost use Rattle.std.specs.Prelude.{◌≡◌, ◌/◌, ◌<◌, true, length};
-ghost use Rattle.records.specs.Encode.{encode as written, Fits, two};
+ghost use Rattle.records.specs.Encode.{encode as written, Fits, two, four, eight};
 ghost use Rattle.records.specs.Held.{content, whole};
 ghost use Rattle.encoding.specs.Placed.{joined, Encodes};
 
-use records::Record;
+use records::{BRANCH_SIZE, PORTION_SIZE, Record};
 
 // Fills the room with the parts, one behind the other.
 fn put_parts(room: &mut [u8], parts: &[&[u8]])
@@ -19,9 +19,21 @@ fn put_parts(room: &mut [u8], parts: &[&[u8]])
     }
 }
 
-// A number in its two bytes, the highest first.
+// A number in its bytes, the highest first.
 fn two(number: u16) -> [u8; 2]
     ensures { result ≡ two number }
+{
+    number.to_be_bytes()
+}
+
+fn four(number: u32) -> [u8; 4]
+    ensures { result ≡ four number }
+{
+    number.to_be_bytes()
+}
+
+fn eight(number: u64) -> [u8; 8]
+    ensures { result ≡ eight number }
 {
     number.to_be_bytes()
 }
@@ -36,14 +48,15 @@ fn entry_count(entries: &[u8], width: usize) -> [u8; 2]
 }
 
 // How many bytes a record takes.
+#[tactic(auto, using(crate::proofs::WholeEntries::length_ch, crate::proofs::WholeEntries::length_wf))]
 fn size(item: Record<'_>) -> usize
     requires { whole item ≡ true }
     ensures { result ≡ length (written (content item.entry)) }
 {
+    let fixed = item.mark().fixed_size();
     match item {
-        Record::Ch { entries } => 4 + entries.len(),
-        Record::Wf { entries, .. } => 11 + entries.len(),
-        _ => item.mark().fixed_size(),
+        Record::Ch { entries } | Record::Wf { entries, .. } => fixed + entries.len(),
+        _ => fixed,
     }
 }
 
@@ -54,23 +67,28 @@ fn put_record(room: &mut [u8], item: Record<'_>)
     ensures value { room.new ≡ written (content item.entry) }
     ensures fit { Fits (content item.entry) }
 {
+    let mark = item.mark().letters();
     match item {
         Record::Md {
             states,
             denominator,
-        } => put_parts(room, &[b"MD", &two(states), &two(denominator)]),
-        Record::St { goal, choices } => put_parts(room, &[b"ST", &[goal], &two(choices)]),
-        Record::Ch { entries } => put_parts(room, &[b"CH", &entry_count(entries, 4), entries]),
-        Record::Hd { kind, side } => put_parts(room, &[b"HD", &[kind, side]]),
-        Record::Ce { state, claim } => put_parts(room, &[b"CE", &two(state), &claim.to_be_bytes()]),
-        Record::Fl { state, claim } => put_parts(room, &[b"FL", &two(state), &claim.to_be_bytes()]),
-        Record::Pc { state, class } => put_parts(room, &[b"PC", &two(state), &[class]]),
+        } => put_parts(room, &[&mark, &two(states), &two(denominator)]),
+        Record::St { goal, choices } => put_parts(room, &[&mark, &[goal], &two(choices)]),
+        Record::Ch { entries } => put_parts(
+            room,
+            &[&mark, &entry_count(entries, BRANCH_SIZE), entries],
+        ),
+        Record::Hd { kind, side } => put_parts(room, &[&mark, &[kind, side]]),
+        Record::Ce { state, claim } | Record::Fl { state, claim } => {
+            put_parts(room, &[&mark, &two(state), &four(claim)])
+        }
+        Record::Pc { state, class } => put_parts(room, &[&mark, &two(state), &[class]]),
         Record::Pm {
             state,
             choice,
             matched,
-        } => put_parts(room, &[b"PM", &two(state), &two(choice), &two(matched)]),
-        Record::Rw { state, row } => put_parts(room, &[b"RW", &two(state), &row.to_be_bytes()]),
+        } => put_parts(room, &[&mark, &two(state), &two(choice), &two(matched)]),
+        Record::Rw { state, row } => put_parts(room, &[&mark, &two(state), &eight(row)]),
         Record::Wf {
             state,
             high,
@@ -80,16 +98,16 @@ fn put_record(room: &mut [u8], item: Record<'_>)
         } => put_parts(
             room,
             &[
-                b"WF",
+                &mark,
                 &two(state),
                 &[high],
                 &two(choice),
                 &two(matched),
-                &entry_count(entries, 5),
+                &entry_count(entries, PORTION_SIZE),
                 entries,
             ],
         ),
-        Record::Zz => put_parts(room, &[b"ZZ"]),
+        Record::Zz => put_parts(room, &[&mark]),
     }
 }
 

@@ -1,7 +1,8 @@
 // What a record of a file says. Entries stay in the caller's bytes; entries.rt reads them.
-ghost use Rattle.std.specs.Prelude.{◌≡◌, ◌/◌, ◌%◌, ◌<◌, ◌&&◌, length, ◌==◌, nat_lt};
+ghost use Rattle.std.specs.Prelude.{◌≡◌, ◌/◌, ◌%◌, ◌<◌, ◌&&◌, [], ◌∷◌, length, ◌==◌, nat_lt};
 ghost use Rattle.records.specs.Content.{mark_of};
 ghost use Rattle.records.specs.Decode.{fixed_size};
+ghost use Rattle.records.specs.Encode.{first_letter, second_letter};
 ghost use Rattle.records.specs.Held.{content, whole};
 
 // The two letters before a record, which say what it is.
@@ -20,6 +21,7 @@ pub enum Mark {
     Zz,
 }
 
+// `goal`, `kind` and `side` are numbers: a caller may hand in any byte, and whoever reads the record refuses those that mean nothing.
 #[derive(Clone, Copy)]
 pub enum Record<'a> {
     // A model: how many states it has, and its denominator.
@@ -100,6 +102,25 @@ pub struct Portion {
 }
 
 impl Mark {
+    // The letters that it is spelled with. `TryFrom` reads them: it has a table of its own, since a match runs on patterns.
+    pub fn letters(self) -> [u8; 2]
+        ensures { result ≡ first_letter self ∷ second_letter self ∷ [] }
+    {
+        match self {
+            Mark::Md => *b"MD",
+            Mark::St => *b"ST",
+            Mark::Ch => *b"CH",
+            Mark::Hd => *b"HD",
+            Mark::Ce => *b"CE",
+            Mark::Fl => *b"FL",
+            Mark::Pc => *b"PC",
+            Mark::Pm => *b"PM",
+            Mark::Rw => *b"RW",
+            Mark::Wf => *b"WF",
+            Mark::Zz => *b"ZZ",
+        }
+    }
+
     // How many bytes a record of this mark takes without its entries.
     pub fn fixed_size(self) -> usize
         ensures { result ≡ fixed_size self }

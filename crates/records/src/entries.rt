@@ -24,9 +24,7 @@ impl Entry<BRANCH_SIZE> for Branch {
 
     ghost sized = { Prim.search rules };
 
-    fn from_bytes(bytes: &[u8; BRANCH_SIZE]) -> Branch
-        ensures { result ≡ branch_from bytes.now 0 }
-    {
+    fn from_bytes(bytes: &[u8; BRANCH_SIZE]) -> Branch {
         let [t0, t1, w0, w1] = *bytes;
         Branch {
             target: u16::from_be_bytes([t0, t1]),
@@ -40,9 +38,7 @@ impl Entry<PORTION_SIZE> for Portion {
 
     ghost sized = { Prim.search rules };
 
-    fn from_bytes(bytes: &[u8; PORTION_SIZE]) -> Portion
-        ensures { result ≡ portion_from bytes.now 0 }
-    {
+    fn from_bytes(bytes: &[u8; PORTION_SIZE]) -> Portion {
         let [t0, t1, high, a0, a1] = *bytes;
         Portion {
             target: u16::from_be_bytes([t0, t1]),
