@@ -1,6 +1,6 @@
 // Reading a request from a line of numbers.
-ghost use Rattle.std.specs.Prelude.{◌≡◌, ℕ, ◌↔◌, IsTrue, MatchResult};
-ghost use Rattle.requests.specs.Line.{blank, unblanked, OnlyBlanks, digits, behind, Begins, Parsed};
+ghost use Rattle.std.specs.Prelude.{◌≡◌, ◌↔◌, IsTrue};
+ghost use Rattle.requests.specs.Line.{blank, unblanked, OnlyBlanks, digits, behind, Taken, Parsed};
 
 use crate::request::{BadLine, Request};
 use std::str;
@@ -45,7 +45,7 @@ struct Line<'a> {
 impl<'a> Line<'a> {
     // The number that it begins with, after blanks. It goes on behind that number, or stays where there is none.
     fn number(&mut self) -> Result<u32, BadLine>
-        ensures { MatchResult result (λ n. Begins self.old.rest.now n × (self.new.rest.now ≡ behind self.old.rest.now)) (λ _. ((n : ℕ) → Begins self.old.rest.now n → ⊥) × (self.new.rest.now ≡ self.old.rest.now)) }
+        ensures { Taken self.old.rest.now result self.new.rest.now }
     {
         let (digits, rest) = split_digits(self.rest);
         let digits = str::from_utf8(digits).map_err(|_| BadLine)?;
