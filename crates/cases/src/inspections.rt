@@ -2,12 +2,11 @@
 ghost use Rattle.std.specs.Prelude.{◌&&◌, if◌then◌else◌, nat_lt};
 ghost use Rattle.std.proofs.Common.{rules};
 
-use crate::values;
-use inspection::{Unsound, inspect};
+use crate::{refusal, values};
+use inspection::inspect;
 use mdp::Source;
 use quotient::Quotient;
 use reach::{TooFar, exact_values};
-use refusals::Refusal;
 use sink::Sink;
 
 // Every state has the same number of choices, and every choice the same weight to every state.
@@ -22,7 +21,13 @@ struct Flat {
 }
 
 impl Source for Flat {
-    ghost meaning = { λ x. record { states = x.states; denominator = x.denominator; goal = λ s. nat_lt s x.goals && nat_lt s x.states; choices = λ s. (if nat_lt s x.states then x.choices else 0); weight = λ s c t. (if nat_lt s x.states && nat_lt c x.choices && nat_lt t x.states then x.weight else 0) } };
+    ghost meaning = { λ x. record {
+      states = x.states;
+      denominator = x.denominator;
+      goal = λ s. nat_lt s x.goals && nat_lt s x.states;
+      choices = λ s. (if nat_lt s x.states then x.choices else 0);
+      weight = λ s c t. (if nat_lt s x.states && nat_lt c x.choices && nat_lt t x.states then x.weight else 0);
+    } };
 
     ghost letter = { 70 };
 
@@ -59,12 +64,6 @@ impl Source for Flat {
 
 const MAX: u32 = u32::MAX;
 
-// What an inspection refuses by: the letter, the number and the place; None where it accepts.
-fn refusal(answer: Result<(), Unsound>) -> Option<(u8, u32, u32)> {
-    let unsound = answer.err()?;
-    Some((unsound.letter, unsound.number(), unsound.place()))
-}
-
 #[test]
 fn largest_answers_are_refused(rt: HostRuntime) {
     let full = Flat {
@@ -92,7 +91,6 @@ fn the_first_fault_is_named(rt: HostRuntime) {
     };
     let cases = [
         (sound, None),
-        // A smaller number goes before a lower state.
         (Flat { states: 0, ..sound }, Some((6, 0))),
         (
             Flat {
@@ -101,6 +99,7 @@ fn the_first_fault_is_named(rt: HostRuntime) {
             },
             Some((6, 0)),
         ),
+        // Of several faults the one of the smaller number is named.
         (
             Flat {
                 denominator: 0,
@@ -124,6 +123,7 @@ fn the_first_fault_is_named(rt: HostRuntime) {
             },
             Some((7, 0)),
         ),
+        // A smaller number goes before a lower state: the weights are wrong from state 0 on.
         (
             Flat {
                 choices: 17,

@@ -11,7 +11,13 @@ use quotient::Quotient;
 struct Stairs;
 
 impl Source for Stairs {
-    ghost meaning = { λ _. record { states = 4; denominator = 1; goal = λ s. nat_lt s 4 && nat_le 2 s; choices = λ s. (if nat_lt s 4 then s + 1 else 0); weight = λ s c t. (if nat_lt s 4 && (nat_le c s && c == t) then 1 else 0) } };
+    ghost meaning = { λ _. record {
+      states = 4;
+      denominator = 1;
+      goal = λ s. nat_lt s 4 && nat_le 2 s;
+      choices = λ s. (if nat_lt s 4 then s + 1 else 0);
+      weight = λ s c t. (if nat_lt s 4 && (nat_le c s && c == t) then 1 else 0);
+    } };
 
     ghost letter = { 83 };
 
@@ -47,8 +53,8 @@ fn classes_have_the_choices_of_their_states(rt: HostRuntime) {
     let q = Quotient::new(Stairs, &[0, 0, 1, 1]);
     assert!(rt; inspect(&q).is_ok());
     assert_eq!(rt; q.states(), 2);
-    assert_eq!(rt; q.is_goal(0), false);
-    assert_eq!(rt; q.is_goal(1), true);
+    assert!(rt; !q.is_goal(0));
+    assert!(rt; q.is_goal(1));
     assert_eq!(rt; q.choices(0), 3);
     assert_eq!(rt; q.choices(1), 7);
     // State 3 goes to state 2.

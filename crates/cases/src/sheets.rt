@@ -1,11 +1,9 @@
 // Tests of the retry sheet.
-use crate::values;
+use crate::{refusal, values};
 use inspection::inspect;
 use mdp::Source;
 use reach::exact_values;
-use refusals::Refusal;
 use retry::{Numbers, Sheet, sheet_a};
-use std::test::Fail;
 
 // State 0 is not applied; state 3 is, after its one resend; 4, 5 and 6 are the ends.
 #[test]
@@ -24,7 +22,7 @@ fn losses_add_up(rt: HostRuntime) {
 }
 
 #[test]
-fn as_many_events_as_fit(rt: HostRuntime) -> Result<(), Fail> {
+fn as_many_events_as_fit(rt: HostRuntime) {
     let most = Numbers {
         events: 126,
         resends: 0,
@@ -37,13 +35,10 @@ fn as_many_events_as_fit(rt: HostRuntime) -> Result<(), Fail> {
         events: 127,
         ..most
     };
-    match inspect(&Sheet::new(more).under_sink()) {
-        Ok(()) => Err(Fail::new("127 events are too many")),
-        Err(refusal) => {
-            assert!(rt; refusal.letter == b'K' && refusal.number() == 6 && refusal.place() == 0);
-            Ok(())
-        }
-    }
+    assert_eq!(rt;
+        refusal(inspect(&Sheet::new(more).under_sink())),
+        Some((b'K', 6, 0))
+    );
 }
 
 #[test]

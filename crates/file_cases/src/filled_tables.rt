@@ -1,17 +1,15 @@
 // Tables filled from model files, and the models that they answer for.
-use filling::Tables;
+use crate::verdicts::MODEL;
+use filling::{FillFault, Tables};
 use inspection::{Fault, inspect};
 use mdp::Source;
+use reader::ReadFault;
 use records::Branch;
 use refusals::Refusal;
 use sink::Sink;
 use std::process::Abort;
 use std::test::Fail;
 use tables::{ChoiceRow, StateRow, Table};
-
-// Two states: the first has two choices, the second is a goal and has none. Two rows, two rows, three rows.
-const MODEL: &[u8] =
-    b"MD\x00\x02\x00\x04ST\x00\x00\x02CH\x00\x02\x00\x00\x00\x03\x00\x01\x00\x01CH\x00\x01\x00\x01\x00\x04ST\x01\x00\x00ZZ";
 
 // Rows that no file gives, to see what is left of them.
 fn state_row() -> StateRow {
@@ -47,9 +45,7 @@ fn filled(rt: HostRuntime) -> Result<(), Fail> {
         choices: &mut choices,
         branches: &mut branches,
     };
-    let Ok(filled) = tables.fill(MODEL) else {
-        return Err(Fail::new("refused"));
-    };
+    let filled = tables.fill(MODEL)?;
     assert_eq!(rt; filled.states, 2);
     assert_eq!(rt; filled.choices, 2);
     assert_eq!(rt; filled.branches, 3);
@@ -80,9 +76,7 @@ fn opened_under_the_sink(rt: HostRuntime) -> Result<(), Fail> {
         choices: &mut choices,
         branches: &mut branches,
     };
-    let Ok(filled) = tables.fill(MODEL) else {
-        return Err(Fail::new("refused"));
-    };
+    let filled = tables.fill(MODEL)?;
     let table = Table::over(&states, &choices, &branches, filled);
     let Err(unsound) = inspect(&table) else {
         return Err(Fail::new("sound without the sink"));
@@ -93,14 +87,8 @@ fn opened_under_the_sink(rt: HostRuntime) -> Result<(), Fail> {
     Ok(())
 }
 
-// Whether filling tables of these sizes is refused by this number at this place, and leaves every row.
-fn refused(
-    rt: &impl Abort,
-    bytes: &[u8],
-    sizes: (usize, usize, usize),
-    number: u32,
-    place: usize,
-) -> Result<(), Fail> {
+// Filling tables of these sizes is refused so, and leaves every row.
+fn refused(rt: &impl Abort, bytes: &[u8], sizes: (usize, usize, usize), fault: FillFault) {
     let mut states = [state_row(); 3];
     let mut choices = [choice_row(); 3];
     let mut branches = [branch(); 4];
@@ -110,11 +98,7 @@ fn refused(
         choices: &mut choices[0..sizes.1],
         branches: &mut branches[0..sizes.2],
     };
-    let Err(fault) = tables.fill(bytes) else {
-        return Err(Fail::new("filled"));
-    };
-    assert_eq!(rt; fault.number(), number);
-    assert_eq!(rt; fault.place(), place);
+    assert_eq!(rt; tables.fill(bytes).err(), Some(fault));
     for row in states {
         assert_eq!(rt; row.first, 99);
     }
@@ -124,24 +108,60 @@ fn refused(
     for row in branches {
         assert_eq!(rt; row.target, 99);
     }
-    Ok(())
 }
 
 #[test]
-fn one_row_too_few(rt: HostRuntime) -> Result<(), Fail> {
-    refused(&rt, MODEL, (1, 2, 3), 5, 0)?;
-    refused(&rt, MODEL, (2, 1, 3), 5, 0)?;
-    refused(&rt, MODEL, (2, 2, 2), 5, 0)?;
-    refused(&rt, MODEL, (0, 0, 0), 5, 0)
+fn one_row_too_few(rt: HostRuntime) {
+    refused(&rt, MODEL, (1, 2, 3), FillFault::NoRoom);
+    refused(&rt, MODEL, (2, 1, 3), FillFault::NoRoom);
+    refused(&rt, MODEL, (2, 2, 2), FillFault::NoRoom);
+    refused(&rt, MODEL, (0, 0, 0), FillFault::NoRoom);
+    assert_eq!(rt; FillFault::NoRoom.number(), 5);
+    assert_eq!(rt; FillFault::NoRoom.place(), 0);
 }
 
 // What does not read is refused for that, however small the tables are.
+fn unread(
+    rt: &impl Abort,
+    bytes: &[u8],
+    sizes: (usize, usize, usize),
+    fault: ReadFault,
+    number: u32,
+    place: usize,
+) {
+    let fault = FillFault::Reading(fault);
+    refused(rt, bytes, sizes, fault);
+    assert_eq!(rt; fault.number(), number);
+    assert_eq!(rt; fault.place(), place);
+}
+
 #[test]
-fn reading_comes_first(rt: HostRuntime) -> Result<(), Fail> {
-    refused(&rt, b"MD\x00\x02\x00\x04ST\x00\x00\x02CH", (0, 0, 0), 1, 11)?;
-    refused(&rt, b"HD\x05\x00ZZ", (3, 3, 4), 2, 0)?;
-    refused(&rt, b"MD\x00\x01\x00\x01ST\x02\x00\x00ZZ", (0, 0, 0), 3, 6)?;
-    refused(&rt, b"MD\x00\x00\x00\x01ZZ!", (3, 3, 4), 4, 8)
+fn reading_comes_first(rt: HostRuntime) {
+    unread(
+        &rt,
+        b"MD\x00\x02\x00\x04ST\x00\x00\x02CH",
+        (0, 0, 0),
+        ReadFault::Ends(11),
+        1,
+        11,
+    );
+    unread(&rt, b"HD\x05\x00ZZ", (3, 3, 4), ReadFault::BadMark(0), 2, 0);
+    unread(
+        &rt,
+        b"MD\x00\x01\x00\x01ST\x02\x00\x00ZZ",
+        (0, 0, 0),
+        ReadFault::BadField(6),
+        3,
+        6,
+    );
+    unread(
+        &rt,
+        b"MD\x00\x00\x00\x01ZZ!",
+        (3, 3, 4),
+        ReadFault::Surplus(8),
+        4,
+        8,
+    );
 }
 
 // No states, no denominator, a choice without targets: they read, and an opening refuses them by 6 or 8.
@@ -155,9 +175,7 @@ fn little_models(rt: HostRuntime) -> Result<(), Fail> {
         choices: &mut choices,
         branches: &mut branches,
     };
-    let Ok(none) = tables.fill(b"MD\x00\x00\x00\x04ZZ") else {
-        return Err(Fail::new("no states refused"));
-    };
+    let none = tables.fill(b"MD\x00\x00\x00\x04ZZ")?;
     let table = Table::over(&states, &choices, &branches, none);
     assert!(rt; table.states() == 0 && !table.is_goal(0) && table.choices(0) == 0);
     assert!(rt; inspect(&table).is_err());
@@ -167,9 +185,7 @@ fn little_models(rt: HostRuntime) -> Result<(), Fail> {
         choices: &mut choices,
         branches: &mut branches,
     };
-    let Ok(empty) = tables.fill(file) else {
-        return Err(Fail::new("no targets refused"));
-    };
+    let empty = tables.fill(file)?;
     let table = Table::over(&states, &choices, &branches, empty);
     let Err(unsound) = inspect(&table) else {
         return Err(Fail::new("sound without weights"));

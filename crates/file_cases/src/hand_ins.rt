@@ -1,4 +1,5 @@
 // Hand-ins that read, and each way in which one does not.
+use crate::verdicts::cut_anywhere;
 use reader::{ReadFault, Reader, read_hand_in};
 use refusals::Refusal;
 use std::process::Abort;
@@ -15,6 +16,7 @@ const RELATION: &[u8] =
 
 const CARRY: &[u8] = b"HD\x05\x00ZZ";
 
+// These three name the reading once for all that stands below; at a hundred calls its name would only be noise.
 fn reads(rt: &impl Abort, bytes: &[u8]) {
     assert_eq!(rt; read_hand_in(bytes), Ok(()));
 }
@@ -23,32 +25,18 @@ fn refused(rt: &impl Abort, bytes: &[u8], fault: ReadFault) {
     assert_eq!(rt; read_hand_in(bytes), Err(fault));
 }
 
-// The last of the offsets that is not above n.
-fn last_start(starts: &[usize], n: usize) -> usize {
-    let mut last = 0;
-    for start in starts {
-        if *start <= n {
-            last = *start;
-        }
-    }
-    last
-}
-
-// Each front of a file is refused by 1 at the record that it cuts, or that is missing.
-fn cut_anywhere(rt: &impl Abort, bytes: &[u8], starts: &[usize]) {
-    for n in 0..bytes.len() {
-        refused(rt, &bytes[0..n], ReadFault::Ends(last_start(starts, n)));
-    }
-    reads(rt, bytes);
+// In a closure, since a function of another crate is not passed by its name.
+fn cut(rt: &impl Abort, bytes: &[u8], starts: &[usize]) {
+    cut_anywhere(rt, |front: &[u8]| read_hand_in(front), bytes, starts);
 }
 
 #[test]
 fn every_cut(rt: HostRuntime) {
-    cut_anywhere(&rt, CEILINGS, &[0, 4, 12, 20]);
-    cut_anywhere(&rt, FLOORS, &[0, 4, 12, 20]);
-    cut_anywhere(&rt, CLASSES, &[0, 4, 9, 14, 22, 30]);
-    cut_anywhere(&rt, RELATION, &[0, 4, 16, 37]);
-    cut_anywhere(&rt, CARRY, &[0, 4]);
+    cut(&rt, CEILINGS, &[0, 4, 12, 20]);
+    cut(&rt, FLOORS, &[0, 4, 12, 20]);
+    cut(&rt, CLASSES, &[0, 4, 9, 14, 22, 30]);
+    cut(&rt, RELATION, &[0, 4, 16, 37]);
+    cut(&rt, CARRY, &[0, 4]);
 }
 
 #[test]

@@ -8,4 +8,6 @@ mod hand_ins;
 #[cfg(test)]
 mod model_files;
 #[cfg(test)]
+mod verdicts;
+#[cfg(test)]
 mod writing;

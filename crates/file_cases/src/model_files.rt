@@ -1,13 +1,11 @@
 // Model files that read, and each way in which one does not.
+use crate::verdicts::{MODEL, cut_anywhere};
 use reader::{ReadFault, Reader, read_model_file};
 use records::{Record, branches};
 use std::process::Abort;
 use std::test::Fail;
 
-// Two states: the first has two choices, the second is a goal and has none.
-const MODEL: &[u8] =
-    b"MD\x00\x02\x00\x04ST\x00\x00\x02CH\x00\x02\x00\x00\x00\x03\x00\x01\x00\x01CH\x00\x01\x00\x01\x00\x04ST\x01\x00\x00ZZ";
-
+// These two name the reading once, as those of hand_ins.rt do.
 fn reads(rt: &impl Abort, bytes: &[u8]) {
     assert_eq!(rt; read_model_file(bytes), Ok(()));
 }
@@ -16,22 +14,10 @@ fn refused(rt: &impl Abort, bytes: &[u8], fault: ReadFault) {
     assert_eq!(rt; read_model_file(bytes), Err(fault));
 }
 
-// The offset of the record that a front of n bytes of MODEL cuts, or that is missing there.
-fn cut_at(n: usize) -> usize {
-    for start in [36, 31, 23, 11, 6] {
-        if start <= n {
-            return start;
-        }
-    }
-    0
-}
-
 #[test]
 fn every_cut(rt: HostRuntime) {
-    for n in 0..MODEL.len() {
-        refused(&rt, &MODEL[0..n], ReadFault::Ends(cut_at(n)));
-    }
-    reads(&rt, MODEL);
+    let read = |front: &[u8]| read_model_file(front);
+    cut_anywhere(&rt, read, MODEL, &[0, 6, 11, 23, 31, 36]);
 }
 
 #[test]

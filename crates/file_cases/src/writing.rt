@@ -1,5 +1,5 @@
 // Hand-ins that are written, and records that no hand-in has there.
-use reader::read_hand_in;
+use reader::{ReadFault, read_hand_in};
 use records::Record;
 use refusals::Refusal;
 use std::alloc::{AllocError, Global};
@@ -139,11 +139,7 @@ fn entry_for_each_target(heap: Global) -> Result<Vec<u8>, AllocError> {
     let mut entries = Vec::new(heap);
     for target in 0..=65535u16 {
         let [first, second] = target.to_be_bytes();
-        entries.push(first)?;
-        entries.push(second)?;
-        entries.push(0)?;
-        entries.push(0)?;
-        entries.push(1)?;
+        entries.extend_from_slice(&[first, second, 0, 0, 1])?;
     }
     Ok(entries)
 }
@@ -187,7 +183,7 @@ fn no_room(rt: HostRuntime) {
 
 fn written_again(rt: &impl Abort, bytes: &[u8]) {
     let mut buffer = [7u8; 64];
-    assert!(rt; matches!(rewrite(bytes, &mut buffer), Ok(n) if n == bytes.len()));
+    assert_eq!(rt; rewrite(bytes, &mut buffer), Ok(bytes.len()));
     assert!(rt; bytes.len() < 64);
     assert!(rt; &buffer[0..bytes.len()] == bytes);
     assert_eq!(rt; buffer[bytes.len()], 7);
@@ -210,15 +206,15 @@ fn written_as_it_was_read(rt: HostRuntime) {
 #[test]
 fn not_written_again(rt: HostRuntime) {
     let mut small = [7u8; 5];
-    assert!(rt;
-        matches!(
-            rewrite(b"HD\x05\x00ZZ", &mut small),
-            Err(RewriteFault::Writing(WriteFault::NoRoom))
-        )
+    assert_eq!(rt;
+        rewrite(b"HD\x05\x00ZZ", &mut small),
+        Err(RewriteFault::Writing(WriteFault::NoRoom))
     );
     assert!(rt; &small[0..5] == b"\x07\x07\x07\x07\x07".as_slice());
-    assert!(rt;
-        matches!(rewrite(b"HD\x05\x00CE", &mut small), Err(RewriteFault::Reading(fault)) if fault.number() == 2)
+    assert_eq!(rt;
+        rewrite(b"HD\x05\x00CE", &mut small),
+        Err(RewriteFault::Reading(ReadFault::BadMark(4)))
     );
+    assert_eq!(rt; ReadFault::BadMark(4).number(), 2);
     assert!(rt; &small[0..5] == b"\x07\x07\x07\x07\x07".as_slice());
 }

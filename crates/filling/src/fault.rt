@@ -7,7 +7,7 @@ use reader::ReadFault;
 use refusals::{Finder, Refusal, write_refusal};
 use std::fmt;
 
-#[derive(Clone, Copy)]
+#[derive(Clone, Copy, PartialEq, Eq, Debug)]
 pub enum FillFault {
     // The bytes are no model file.
     Reading(ReadFault),

@@ -33,6 +33,11 @@ pub record Begins (text : List ℕ) (n : ℕ) : Type 0 where
   pub value : n ≡ value_of (digits text)
   pub small : value_of (digits text) < 2 ^ 32
 
+-- the number that the text begins with is taken, and what is left goes on behind it; or there is none, and the text stays
+abbrev pub Taken : List ℕ → Result ℕ BadLine → List ℕ → Type 0
+Taken text (Ok n) left = Begins text n × (left ≡ behind text)
+Taken text (Err _) left = ((n : ℕ) → Begins text n → ⊥) × (left ≡ text)
+
 -- nothing but blanks
 abbrev pub OnlyBlanks : List ℕ → Type 0
 OnlyBlanks text = prefix_len blank text ≡ length text

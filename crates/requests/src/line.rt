@@ -1,18 +1,22 @@
 // Reading a request from a line of numbers.
-ghost use Rattle.std.specs.Prelude.{◌≡◌, ℕ, ◌↔◌, IsTrue, MatchResult};
-ghost use Rattle.requests.specs.Line.{unblanked, OnlyBlanks, digits, behind, Begins, Parsed};
+ghost use Rattle.std.specs.Prelude.{◌≡◌, ◌↔◌, IsTrue};
+ghost use Rattle.requests.specs.Line.{blank, unblanked, OnlyBlanks, digits, behind, Taken, Parsed};
 
 use crate::request::{BadLine, Request};
 use std::str;
 
-// The text behind the blanks that it begins with: spaces, tabs and ends of lines.
+// Spaces, tabs and ends of lines.
+fn is_blank_byte(b: u8) -> bool
+    ensures { result ≡ blank b }
+{
+    matches!(b, b' ' | b'\t' | b'\n' | b'\r')
+}
+
+// The text behind the blanks that it begins with.
 fn skip_blanks(text: &[u8]) -> &[u8]
     ensures { result.now ≡ unblanked text.now }
 {
-    let blanks = text
-        .iter()
-        .take_while(|b| matches!(**b, b' ' | b'\t' | b'\n' | b'\r'))
-        .count();
+    let blanks = text.iter().take_while(|b| is_blank_byte(**b)).count();
     &text[blanks..]
 }
 
@@ -32,14 +36,23 @@ fn split_digits(text: &[u8]) -> (&[u8], &[u8])
     text.split_at(text.iter().take_while(|b| b.is_ascii_digit()).count())
 }
 
-// The number that the text begins with, after blanks, and the text behind it.
-fn number(text: &[u8]) -> Result<(u32, &[u8]), BadLine>
-    ensures { MatchResult result (λ p. Begins text.now p.0 × (p.1.now ≡ behind text.now)) (λ _. (n : ℕ) → Begins text.now n → ⊥) }
-{
-    let (digits, rest) = split_digits(text);
-    let digits = str::from_utf8(digits).map_err(|_| BadLine)?;
-    let n = digits.parse().map_err(|_| BadLine)?;
-    Ok((n, rest))
+// What is left of a line whose numbers are taken one after the other.
+#[derive(Drop)]
+struct Line<'a> {
+    rest: &'a [u8],
+}
+
+impl<'a> Line<'a> {
+    // The number that it begins with, after blanks. It goes on behind that number, or stays where there is none.
+    fn number(&mut self) -> Result<u32, BadLine>
+        ensures { Taken self.old.rest.now result self.new.rest.now }
+    {
+        let (digits, rest) = split_digits(self.rest);
+        let digits = str::from_utf8(digits).map_err(|_| BadLine)?;
+        let n = digits.parse().map_err(|_| BadLine)?;
+        self.rest = rest;
+        Ok(n)
+    }
 }
 
 // Six numbers with blanks between them.
@@ -49,22 +62,18 @@ impl TryFrom<&[u8]> for Request {
     ghost try_from_gives = { λ line r. Parsed line.now r };
 
     fn try_from(line: &[u8]) -> Result<Request, BadLine> {
-        let (events, rest) = number(line)?;
-        let (resends, rest) = number(rest)?;
-        let (denominator, rest) = number(rest)?;
-        let (request, rest) = number(rest)?;
-        let (receipt, rest) = number(rest)?;
-        let (steps, rest) = number(rest)?;
-        if !is_blank(rest) {
+        let mut line = Line { rest: line };
+        let request = Request {
+            events: line.number()?,
+            resends: line.number()?,
+            denominator: line.number()?,
+            request: line.number()?,
+            receipt: line.number()?,
+            steps: line.number()?,
+        };
+        if !is_blank(line.rest) {
             return Err(BadLine);
         }
-        Ok(Request {
-            events,
-            resends,
-            denominator,
-            request,
-            receipt,
-            steps,
-        })
+        Ok(request)
     }
 }

@@ -4,6 +4,7 @@ ghost use Rattle.requests.specs.Words.{in_words, wanted};
 
 use std::fmt;
 
+// Its first five fields are those of the retry sheet, written again: this crate stands on none, so that a line is read without a sheet.
 #[derive(Clone, Copy)]
 pub struct Request {
     pub events: u32,
