@@ -1,5 +1,5 @@
 -- What the quotient layer means: states of one class become one state, which has the choices of them all.
-use Rattle.std.specs.Prelude.{◌≡◌, ℕ, zero, suc, ◌+◌, ◌-◌, ◌^◌, ◌<◌, min, Bool, false, cond, ◌&&◌, ◌||◌, List, length, Option, None, Some, IsSome, IfSome, ◌==◌, nat_le, nat_lt}
+use Rattle.std.specs.Prelude.{◌≡◌, ℕ, zero, suc, ◌+◌, ◌-◌, ◌^◌, ◌<◌, min, Bool, false, cond, ◌&&◌, ◌||◌, List, Option, None, Some, IsSome, IfSome, ◌==◌, nat_le, nat_lt}
 use Rattle.std.specs.Option.{option_map}
 use Rattle.mdp.specs.Model.{Model}
 use Rattle.mdp.specs.Sums.{sum}
@@ -82,6 +82,6 @@ pub record Matched (m : Model) (cls : ℕ → ℕ) (count : ℕ) : Type 0 where
 -- What a list becomes: the classes that it names, where it is lawful. A quotient of a sound model by a lawful list is sound.
 pub record Divided (m : Model) (list : List ℕ) (classes : Option Classes) : Type 0 where
   pub same : IfSome classes (λ k. (s : ℕ) → entry k.of_state s ≡ entry list s)
-  pub lawful : Counts m (entry list) (length list) (option_map (λ k. k.count) classes)
+  pub lawful : Counts m list (option_map (λ k. k.count) classes)
   pub sound : Sound m → IsSome classes → Sound (layer m classes)
   pub matched : Sound m → IfSome classes (λ k. Matched m (entry k.of_state) k.count)
