@@ -117,7 +117,7 @@ impl<'a, S: Source> Listed<'a, S> {
     {
         let class = class_at(self.list, s);
         let goal = self.below.is_goal(s);
-        (0..self.below.states()).all(|t| class_at(self.list, t) != class
+        (0..self.below.states()).zip(self.list).all(|(t, named)| u32::from(*named) != class
             || self.below.is_goal(t) == goal)
     }
 }
