@@ -2,7 +2,7 @@
 ghost use Rattle.std.specs.Prelude.{◌≡◌, ◌↔◌, ℕ, ◌<◌, ◌≤◌, length, Decides, IsSome, IfSome};
 ghost use Rattle.mdp.specs.Values.{entry};
 ghost use Rattle.quotient.specs.Classes.{Counts};
-ghost use Rattle.quotient.specs.Quotient.{Divided};
+ghost use Rattle.quotient.specs.Quotient.{class_of, Divided};
 ghost use Rattle.quotient.specs.Working.{Fits, OneAbove, IsNamed, IsAgreed};
 
 use mdp::Source;
@@ -10,7 +10,7 @@ use mdp::Source;
 // The class of each state, by a lawful list.
 #[derive(Drop)]
 pub(crate) struct Classes {
-    // A copy, since callers may let the list go, and one for all numbers of states, since the library allocates nothing; 0 past the list's end.
+    // A copy, since callers of `new` may let the list go; of the largest size, since the library allocates nothing; 0 past the end.
     of_state: [u8; 256],
     pub(crate) count: u32,
 }
@@ -24,7 +24,7 @@ impl Classes {
 
     // Past the 256th place the class is 0.
     pub(crate) fn class_of(&self, s: u32) -> u32
-        ensures { result ≡ entry self.now.of_state s }
+        ensures { result ≡ class_of self.now s }
     {
         class_at(&self.of_state, s)
     }
@@ -106,7 +106,8 @@ impl<'a, S: Source> Listed<'a, S> {
     }
 
     fn all_agree(&self) -> bool
-        ensures { Decides result ((s : ℕ) → s < length self.now.list.now → IsAgreed (S.Source.meaning self.now.below.now) self.now.list.now s) }
+        ensures { Decides result
+            ((s : ℕ) → s < length self.now.list.now → IsAgreed (S.Source.meaning self.now.below.now) self.now.list.now s) }
     {
         (0..self.below.states()).all(|s| self.agrees(s))
     }
@@ -117,7 +118,8 @@ impl<'a, S: Source> Listed<'a, S> {
     {
         let class = class_at(self.list, s);
         let goal = self.below.is_goal(s);
-        (0..self.below.states()).zip(self.list).all(|(t, named)| u32::from(*named) != class
-            || self.below.is_goal(t) == goal)
+        (0..self.below.states()).zip(self.list).all(|(t, named)| {
+            u32::from(*named) != class || self.below.is_goal(t) == goal
+        })
     }
 }
