@@ -6,7 +6,7 @@ use Rattle.mdp.specs.Model.{Model}
 use Rattle.mdp.specs.Sums.{sum}
 use Rattle.mdp.proofs.Sums.{sum_none, sum_more, sum_same, sum_swap, sum_one, sum_const, sum_le, sum_zero, sum_grows}
 use Rattle.quotient.specs.Classes.{Occurs}
-use Rattle.quotient.specs.Quotient.{sum_of_class, goal_to}
+use Rattle.quotient.specs.Quotient.{sum_of_class, goal_to, goal_of}
 
 -- the start of a sum over a class, and one more state, by whether it is of the class
 pub class_none : (cls : ℕ → ℕ) (a : ℕ) (f : ℕ → ℕ) → sum_of_class cls a 0 f ≡ 0
@@ -83,6 +83,6 @@ no_goal m cls a (suc n) h =
 pub goal_found :
     (m : Model) (cls : ℕ → ℕ) (a n : ℕ) (r : Bool) → n ≡ m.states
     → MatchBool r ((t : ℕ) × (t < n) × ((cls t ≡ a) × (m.goal t ≡ true))) ((t : ℕ) → t < n → cls t ≡ a → m.goal t ≡ false)
-    → r ≡ goal_to m cls a m.states
+    → r ≡ goal_of m cls a
 goal_found m cls a n true e h = sym (goal_in m cls a h.0 m.states (omega (arith, h.1)) h.2.0 h.2.1)
 goal_found m cls a n false e h = sym (no_goal m cls a m.states (λ t l. h t (omega arith)))

@@ -1,19 +1,20 @@
 -- Which number of classes makes a list lawful, and that no other does.
-use Rattle.std.proofs.Common.{◌≡◌, ℕ, ◌-◌, ◌<◌, ◌≤◌, Bool, true, false, Decides, List, ◌++◌, length, get_or, drop, Some, sym, refl, ap, ◌∙◌, inl, inr, arith}
+use Rattle.std.proofs.Common.{◌≡◌, ℕ, ◌-◌, ◌<◌, ◌≤◌, Bool, true, false, Decides, List, ◌++◌, length, get_or, drop, Some, None, sym, refl, ap, ◌∙◌, inl, inr, arith}
 use Rattle.std.proofs.lemmas.List.{get_or_append_left, get_or-append_right, get_or-drop, get_or_past}
 use Rattle.std.proofs.lemmas.Bool.{cases_lt, false≢true}
 use Rattle.std.specs.Bool.{then_some}
 use Rattle.mdp.specs.Model.{Model}
-use Rattle.quotient.specs.Classes.{Occurs, Agrees, Lawful, Counts}
-use Rattle.quotient.specs.Working.{OneAbove}
+use Rattle.mdp.specs.Values.{entry}
+use Rattle.quotient.specs.Classes.{Occurs, Lawful, Counts}
+use Rattle.quotient.specs.Working.{Fits, OneAbove, IsNamed, IsAgreed}
 
 occurs_below : (cls : ℕ → ℕ) (n k a : ℕ) → n ≡ k → Occurs cls n a → Occurs cls k a
 occurs_below cls n k a e o = record { state = o.state; within = omega (arith, o.within); named = o.named }
 
 -- a lawful list has as many classes as its classes reach
 same_count :
-    (m : Model) (cls : ℕ → ℕ) (listed r k : ℕ) → OneAbove cls listed r → Lawful m cls listed k → r ≡ k
-same_count m cls listed r k h w =
+    (m : Model) (xs : List ℕ) (r k : ℕ) → OneAbove xs r → Lawful m (entry xs) (length xs) k → r ≡ k
+same_count m xs r k h w =
     let up : r ≤ k = h.1 k (λ s l. w.within s (omega (arith, w.whole))) in
     elim (cases_lt r k) [
       | inl l ↦
@@ -24,34 +25,39 @@ same_count m cls listed r k h w =
 
 -- a list whose classes all occur and whose classmates agree is lawful, and no other
 pub counted :
-    (m : Model) (cls : ℕ → ℕ) (listed r : ℕ) (b : Bool) → listed ≡ m.states → 1 ≤ listed → listed ≤ 256 → OneAbove cls listed r
-    → Decides b (((a : ℕ) → a < r → Occurs cls listed a) × ((s : ℕ) → s < listed → Agrees m cls listed s)) → Counts m cls listed (then_some b r)
-counted m cls listed r true e low high h d =
+    (m : Model) (xs : List ℕ) (r : ℕ) (b : Bool) → Fits m xs → OneAbove xs r
+    → Decides b (((a : ℕ) → a < r → IsNamed xs a) × ((s : ℕ) → s < length xs → IsAgreed m xs s))
+    → Counts m xs (then_some b r)
+counted m xs r true fits h d =
     let p = d.0 refl in
     record {
-      every = λ k w. ap Some (same_count m cls listed r k h w);
+      every = λ k w. ap Some (same_count m xs r k h w);
       holds =
           record {
-            some_states = omega arith;
-            few_states = omega arith;
-            whole = e;
-            within = λ s l. h.0 s (omega arith);
-            occur = λ a l. occurs_below cls listed m.states a e (p.0 a l);
-            agree = λ s l t k. p.1 s (omega arith) t (omega arith);
+            some_states = fits.0;
+            few_states = fits.1;
+            whole = fits.2;
+            within = λ s l. h.0 s (omega (arith, fits.2));
+            occur = λ a l. occurs_below (entry xs) (length xs) m.states a fits.2 (p.0 a l);
+            agree = λ s l t k. p.1 s (omega (arith, fits.2)) t (omega (arith, fits.2));
           };
     }
-counted m cls listed r false e low high h d =
+counted m xs r false fits h d =
     record {
       every = λ k w.
-          let same : r ≡ k = same_count m cls listed r k h w in
+          let same : r ≡ k = same_count m xs r k h w in
           absurd
           (false≢true
           (d.1 (
-            λ a l. occurs_below cls m.states listed a (sym e) (w.occur a (omega arith)),
-            λ s l t k. w.agree s (omega (arith, e)) t (omega (arith, e)),
+            λ a l. occurs_below (entry xs) m.states (length xs) a (sym fits.2) (w.occur a (omega arith)),
+            λ s l t k. w.agree s (omega (arith, fits.2)) t (omega (arith, fits.2)),
           )));
       holds = tt;
     }
+
+-- a list that does not fit is not lawful
+pub unfit : (m : Model) (xs : List ℕ) → (Fits m xs → ⊥) → Counts m xs None
+unfit m xs h = record { every = λ k w. absurd (h (w.some_states, w.few_states, w.whole)); holds = tt }
 
 -- a list that is the same at every place is as lawful
 pub lawful_copy :

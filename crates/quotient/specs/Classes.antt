@@ -1,6 +1,7 @@
 -- When a list divides the states of a model into classes. State s is of class cls s, and the classes are numbered from 0.
-use Rattle.std.specs.Prelude.{◌≡◌, ℕ, ◌<◌, ◌≤◌, Option, Some, IfSome}
+use Rattle.std.specs.Prelude.{◌≡◌, ℕ, ◌<◌, ◌≤◌, List, length, Option, Some, IfSome}
 use Rattle.mdp.specs.Model.{Model}
+use Rattle.mdp.specs.Values.{entry}
 
 -- class a is the class of some state below n
 pub record Occurs (cls : ℕ → ℕ) (n a : ℕ) : Type 0 where
@@ -22,6 +23,6 @@ pub record Lawful (m : Model) (cls : ℕ → ℕ) (listed count : ℕ) : Type 0 
   pub agree : (s : ℕ) → s < m.states → Agrees m cls m.states s
 
 -- count is the number of classes of a lawful list, and None of any other
-pub record Counts (m : Model) (cls : ℕ → ℕ) (listed : ℕ) (count : Option ℕ) : Type 0 where
-  pub every : (k : ℕ) → Lawful m cls listed k → count ≡ Some k
-  pub holds : IfSome count (Lawful m cls listed)
+pub record Counts (m : Model) (list : List ℕ) (count : Option ℕ) : Type 0 where
+  pub every : (k : ℕ) → Lawful m (entry list) (length list) k → count ≡ Some k
+  pub holds : IfSome count (Lawful m (entry list) (length list))

@@ -1,5 +1,5 @@
 -- What the quotient layer means: states of one class become one state, which has the choices of them all.
-use Rattle.std.specs.Prelude.{◌≡◌, ℕ, zero, suc, ◌+◌, ◌-◌, ◌^◌, ◌<◌, min, Bool, false, cond, ◌&&◌, ◌||◌, List, length, Option, None, Some, IsSome, IfSome, ◌==◌, nat_le, nat_lt}
+use Rattle.std.specs.Prelude.{◌≡◌, ℕ, zero, suc, ◌+◌, ◌-◌, ◌^◌, ◌<◌, min, Bool, false, cond, ◌&&◌, ◌||◌, List, Option, None, Some, IsSome, IfSome, ◌==◌, nat_le, nat_lt}
 use Rattle.std.specs.Option.{option_map}
 use Rattle.mdp.specs.Model.{Model}
 use Rattle.mdp.specs.Sums.{sum}
@@ -7,6 +7,10 @@ use Rattle.mdp.specs.Sound.{Sound}
 use Rattle.mdp.specs.Values.{entry}
 use Rattle.quotient.specs.Classes.{Counts}
 use Rattle.quotient.specs.declared.classes.Classes.{Classes}
+
+-- the class of each state, 0 past the 256th
+abbrev pub class_of : Classes → ℕ → ℕ
+class_of classes = entry classes.of_state
 
 -- Sums of weights and of choices stop at 4,294,967,295.
 abbrev pub capped : ℕ → ℕ
@@ -33,6 +37,10 @@ unfoldable pub goal_to : Model → (ℕ → ℕ) → ℕ → ℕ → Bool
 goal_to m cls a zero = false
 goal_to m cls a (suc n) = goal_to m cls a n || (cls n == a && m.goal n)
 
+-- some state of class a is a goal
+abbrev pub goal_of : Model → (ℕ → ℕ) → ℕ → Bool
+goal_of m cls a = goal_to m cls a m.states
+
 -- The choices of a class are those of its states, lowest state first. Choice c of class a is one of state s:
 abbrev pub owns : Model → (ℕ → ℕ) → ℕ → ℕ → ℕ → Bool
 owns m cls a c s = cls s == a && (nat_le (before m cls a s) c && nat_lt c (before m cls a s + m.choices s))
@@ -55,7 +63,7 @@ quotient m cls count =
     record {
       states = count;
       denominator = m.denominator;
-      goal = λ a. nat_lt a count && goal_to m cls a m.states;
+      goal = λ a. nat_lt a count && goal_of m cls a;
       choices = λ a. cond (nat_lt a count) (choices_of m cls a) 0;
       weight = λ a c b. cond (nat_lt a count && nat_lt b count) (weight_between m cls a c b) 0;
     }
@@ -64,7 +72,7 @@ quotient m cls count =
 abbrev pub layer : Model → Option Classes → Model
 layer m None =
     record { states = 0; denominator = 0; goal = λ a. false; choices = λ a. 0; weight = λ a c b. 0 }
-layer m (Some classes) = quotient m (entry classes.of_state) classes.count
+layer m (Some classes) = quotient m (class_of classes) classes.count
 
 -- A state and its class are alike: choice d of state s is choice before m cls (cls s) s + d of its class, and gives each class what the
 -- states of that class are given.
@@ -81,7 +89,7 @@ pub record Matched (m : Model) (cls : ℕ → ℕ) (count : ℕ) : Type 0 where
 
 -- What a list becomes: the classes that it names, where it is lawful. A quotient of a sound model by a lawful list is sound.
 pub record Divided (m : Model) (list : List ℕ) (classes : Option Classes) : Type 0 where
-  pub same : IfSome classes (λ k. (s : ℕ) → entry k.of_state s ≡ entry list s)
-  pub lawful : Counts m (entry list) (length list) (option_map (λ k. k.count) classes)
+  pub same : IfSome classes (λ k. (s : ℕ) → class_of k s ≡ entry list s)
+  pub lawful : Counts m list (option_map (λ k. k.count) classes)
   pub sound : Sound m → IsSome classes → Sound (layer m classes)
-  pub matched : Sound m → IfSome classes (λ k. Matched m (entry k.of_state) k.count)
+  pub matched : Sound m → IfSome classes (λ k. Matched m (class_of k) k.count)

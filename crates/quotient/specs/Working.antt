@@ -1,12 +1,30 @@
 -- What the private functions answer on the way.
-use Rattle.std.specs.Prelude.{◌≡◌, ℕ, ◌+◌, ◌<◌, ◌≤◌, Some, None, Option}
+use Rattle.std.specs.Prelude.{◌≡◌, ℕ, ◌+◌, ◌<◌, ◌≤◌, List, length, Some, None, Option}
 use Rattle.mdp.specs.Model.{Model}
+use Rattle.mdp.specs.Values.{entry}
+use Rattle.quotient.specs.Classes.{Occurs, Agrees}
 use Rattle.quotient.specs.Quotient.{capped, sum_of_class, before}
 use Rattle.quotient.specs.declared.layer.Choice.{Choice}
 
--- r is the smallest number above the classes of the states below n
-abbrev pub OneAbove : (ℕ → ℕ) → ℕ → ℕ → Type 0
-OneAbove cls n r = ((s : ℕ) → s < n → cls s < r) × ((k : ℕ) → ((s : ℕ) → s < n → cls s < k) → r ≤ k)
+-- there are 1 to 256 states, and the list names a class for each
+abbrev pub Fits : Model → List ℕ → Type 0
+Fits m list = (1 ≤ m.states) × (m.states ≤ 256) × (length list ≡ m.states)
+
+-- every class that the list names is below k
+abbrev pub ClassesBelow : List ℕ → ℕ → Type 0
+ClassesBelow list k = (s : ℕ) → s < length list → entry list s < k
+
+-- r is the smallest number above the classes that the list names
+abbrev pub OneAbove : List ℕ → ℕ → Type 0
+OneAbove list r = ClassesBelow list r × ((k : ℕ) → ClassesBelow list k → r ≤ k)
+
+-- the list names class a for some state
+abbrev pub IsNamed : List ℕ → ℕ → Type 0
+IsNamed list a = Occurs (entry list) (length list) a
+
+-- the classmates of s in the list are goals if and only if s is
+abbrev pub IsAgreed : Model → List ℕ → ℕ → Type 0
+IsAgreed m list s = Agrees m (entry list) (length list) s
 
 -- r is the sum over the states of class a below n of what `gives` relates to each, where that is a function f
 abbrev pub IsClassSum : (ℕ → ℕ → Type 0) → (ℕ → ℕ) → ℕ → ℕ → ℕ → Type 0

@@ -1,16 +1,16 @@
 // Lists that name a class for each state, and how many classes they make.
-ghost use Rattle.std.specs.Prelude.{◌≡◌, ℕ, ◌<◌, ◌≤◌, length, Decides};
+ghost use Rattle.std.specs.Prelude.{◌≡◌, ◌↔◌, ℕ, ◌<◌, ◌≤◌, length, Decides, IsSome, IfSome};
 ghost use Rattle.mdp.specs.Values.{entry};
-ghost use Rattle.quotient.specs.Classes.{Occurs, Agrees, Counts};
-ghost use Rattle.quotient.specs.Quotient.{Divided};
-ghost use Rattle.quotient.specs.Working.{OneAbove};
+ghost use Rattle.quotient.specs.Classes.{Counts};
+ghost use Rattle.quotient.specs.Quotient.{class_of, Divided};
+ghost use Rattle.quotient.specs.Working.{Fits, OneAbove, IsNamed, IsAgreed};
 
 use mdp::Source;
 
 // The class of each state, by a lawful list.
 #[derive(Drop)]
 pub(crate) struct Classes {
-    // As many places as there can be states, since the library allocates nothing; 0 past the list's end.
+    // A copy, since callers of `new` may let the list go; of the largest size, since the library allocates nothing; 0 past the end.
     of_state: [u8; 256],
     pub(crate) count: u32,
 }
@@ -19,78 +19,107 @@ impl Classes {
     pub(crate) fn of_list<S: Source>(below: &S, list: &[u8]) -> Option<Self>
         ensures { Divided (S.Source.meaning below.now) list.now result }
     {
-        let count = count_classes(below, list)?;
-        let of_state = copied(list);
-        Some(Classes { of_state, count })
+        Listed::new(below, list)?.classes()
     }
 
     // Past the 256th place the class is 0.
     pub(crate) fn class_of(&self, s: u32) -> u32
-        ensures { result ≡ entry self.now.of_state s }
+        ensures { result ≡ class_of self.now s }
     {
-        self.of_state
-            .get(s as usize)
-            .map_or(0, |class| u32::from(*class))
+        class_at(&self.of_state, s)
     }
 }
 
-// The list, and zeros up to the 256th place.
-fn copied(list: &[u8]) -> [u8; 256]
-    requires { length list.now ≤ 256 }
-    ensures { (k : ℕ) → entry result k ≡ entry list.now k }
+fn class_at(list: &[u8], s: u32) -> u32
+    ensures { result ≡ entry list.now s }
 {
-    let mut copy = [0; 256];
-    copy[..list.len()].copy_from_slice(list);
-    copy
+    list.get(s as usize).map_or(0, |class| u32::from(*class))
 }
 
-// The number of classes of a lawful list.
-fn count_classes<S: Source>(below: &S, list: &[u8]) -> Option<u32>
-    ensures { Counts (S.Source.meaning below.now) (entry list.now) (length list.now) result }
-{
-    let n = below.states();
-    if !(1..=256).contains(&n) || list.len() != n as usize {
-        return None;
+// A list that names a class for each state below, of which there are 1 to 256.
+#[derive(Drop)]
+struct Listed<'a, S: Source> {
+    below: &'a S,
+    list: &'a [u8],
+    ghost fits: { Fits (S.Source.meaning below.now) list.now },
+}
+
+impl<'a, S: Source> Listed<'a, S> {
+    fn new(below: &'a S, list: &'a [u8]) -> Option<Self>
+        ensures fits { IsSome result ↔ Fits (S.Source.meaning below.now) list.now }
+        ensures same { IfSome result (λ x. (x.below.now ≡ below.now) × (x.list.now ≡ list.now)) }
+    {
+        let n = below.states();
+        if (1..=256).contains(&n) && list.len() == n as usize {
+            Some(Listed { below, list })
+        } else {
+            None
+        }
     }
-    let count = one_above(list);
-    (all_occur(list, count) && all_agree(below, list)).then_some(count)
-}
 
-// One above the largest class.
-fn one_above(list: &[u8]) -> u32
-    ensures { OneAbove (entry list.now) (length list.now) result }
-{
-    list.iter()
-        .max()
-        .map_or(0, |largest| u32::from(*largest) + 1)
-}
+    fn classes(&self) -> Option<Classes>
+        ensures { Divided (S.Source.meaning self.now.below.now) self.now.list.now result }
+    {
+        let count = self.count()?;
+        let of_state = self.copied();
+        Some(Classes { of_state, count })
+    }
 
-// Whether every class below `count` occurs.
-fn all_occur(list: &[u8], count: u32) -> bool
-    ensures { Decides result ((a : ℕ) → a < count → Occurs (entry list.now) (length list.now) a) }
-{
-    (0..count).all(|class| occurs(list, class))
-}
+    // The list, and zeros up to the 256th place.
+    fn copied(&self) -> [u8; 256]
+        ensures { (k : ℕ) → entry result k ≡ entry self.now.list.now k }
+    {
+        let mut copy = [0; 256];
+        copy[..self.list.len()].copy_from_slice(self.list);
+        copy
+    }
 
-fn occurs(list: &[u8], class: u32) -> bool
-    ensures { Decides result (Occurs (entry list.now) (length list.now) class) }
-{
-    list.iter().any(|named| u32::from(*named) == class)
-}
+    // The number of classes of a lawful list.
+    fn count(&self) -> Option<u32>
+        ensures { Counts (S.Source.meaning self.now.below.now) self.now.list.now result }
+    {
+        let count = self.one_above();
+        (self.all_occur(count) && self.all_agree()).then_some(count)
+    }
 
-fn all_agree<S: Source>(below: &S, list: &[u8]) -> bool
-    requires { (S.Source.meaning below.now).states ≡ length list.now }
-    ensures { Decides result ((s : ℕ) → s < length list.now → Agrees (S.Source.meaning below.now) (entry list.now) (length list.now) s) }
-{
-    (0..below.states()).all(|s| agrees(below, list, s))
-}
+    // One above the largest class.
+    fn one_above(&self) -> u32
+        ensures { OneAbove self.now.list.now result }
+    {
+        self.list
+            .iter()
+            .max()
+            .map_or(0, |largest| u32::from(*largest) + 1)
+    }
 
-// Whether state `s` and its classmates agree on the goal mark.
-fn agrees<S: Source>(below: &S, list: &[u8], s: u32) -> bool
-    requires listed { (S.Source.meaning below.now).states ≡ length list.now }
-    requires within { s < length list.now }
-    ensures { Decides result (Agrees (S.Source.meaning below.now) (entry list.now) (length list.now) s) }
-{
-    let goal = below.is_goal(s);
-    (0..below.states()).all(|t| list[s as usize] != list[t as usize] || below.is_goal(t) == goal)
+    // Whether every class below `count` occurs.
+    fn all_occur(&self, count: u32) -> bool
+        ensures { Decides result ((a : ℕ) → a < count → IsNamed self.now.list.now a) }
+    {
+        (0..count).all(|class| self.occurs(class))
+    }
+
+    fn occurs(&self, class: u32) -> bool
+        ensures { Decides result (IsNamed self.now.list.now class) }
+    {
+        self.list.iter().any(|named| u32::from(*named) == class)
+    }
+
+    fn all_agree(&self) -> bool
+        ensures { Decides result
+            ((s : ℕ) → s < length self.now.list.now → IsAgreed (S.Source.meaning self.now.below.now) self.now.list.now s) }
+    {
+        (0..self.below.states()).all(|s| self.agrees(s))
+    }
+
+    // Whether state `s` and its classmates agree on the goal mark.
+    fn agrees(&self, s: u32) -> bool
+        ensures { Decides result (IsAgreed (S.Source.meaning self.now.below.now) self.now.list.now s) }
+    {
+        let class = class_at(self.list, s);
+        let goal = self.below.is_goal(s);
+        (0..self.below.states()).zip(self.list).all(|(t, named)| {
+            u32::from(*named) != class || self.below.is_goal(t) == goal
+        })
+    }
 }

@@ -1,7 +1,6 @@
 // The quotient layer: the states of one class become one state.
 ghost use Rattle.std.specs.Prelude.{◌≡◌, ◌<◌, ◌↔◌, ◌==◌, IsSome, IfSome, Some};
-ghost use Rattle.mdp.specs.Values.{entry};
-ghost use Rattle.quotient.specs.Quotient.{into, goal_to, choices_of, weight_between, layer, Divided};
+ghost use Rattle.quotient.specs.Quotient.{class_of, into, goal_of, choices_of, weight_between, layer, Divided};
 ghost use Rattle.quotient.specs.Working.{IsClassSum, Owner};
 ghost use Rattle.std.proofs.Common.{rules};
 
@@ -86,7 +85,7 @@ struct Choice {
     number: u32,
 }
 
-// One class of the states below.
+// One class of the states below. Its contracts name the fields, since the value of a `Model` can hold no functions, such as those of a model.
 #[derive(Drop)]
 struct Class<'a, S> {
     below: &'a S,
@@ -96,21 +95,20 @@ struct Class<'a, S> {
 
 impl<'a, S: Source> Class<'a, S> {
     fn has(&self, s: u32) -> bool
-        ensures { result ≡ (entry self.now.classes.now.of_state s == self.now.number) }
+        ensures { result ≡ (class_of self.now.classes.now s == self.now.number) }
     {
         self.classes.class_of(s) == self.number
     }
 
     fn has_goal(&self) -> bool
-        ensures { result ≡ goal_to (S.Source.meaning self.now.below.now) (entry self.now.classes.now.of_state) self.now.number
-            (S.Source.meaning self.now.below.now).states }
+        ensures { result ≡ goal_of (S.Source.meaning self.now.below.now) (class_of self.now.classes.now) self.now.number }
     {
         (0..self.below.states()).any(|s| self.has(s) && self.below.is_goal(s))
     }
 
     #[tactic(auto, unfolding(crate::specs::Quotient::choices_of))]
     fn choices(&self) -> u32
-        ensures { result ≡ choices_of (S.Source.meaning self.now.below.now) (entry self.now.classes.now.of_state) self.now.number }
+        ensures { result ≡ choices_of (S.Source.meaning self.now.below.now) (class_of self.now.classes.now) self.now.number }
     {
         self.sum(|s| self.below.choices(s))
     }
@@ -118,20 +116,20 @@ impl<'a, S: Source> Class<'a, S> {
     // The state whose choice is choice `c` of the class.
     #[tactic(auto, using(crate::proofs::ByClass::class_steps))]
     fn owner(&self, c: u32) -> Option<Choice>
-        ensures { Owner (S.Source.meaning self.now.below.now) (entry self.now.classes.now.of_state) self.now.number c result }
+        ensures { Owner (S.Source.meaning self.now.below.now) (class_of self.now.classes.now) self.now.number c result }
     {
         // A loop, since what is left of `c` goes on from state to state.
         let mut rest = c;
         for s in 0..self.below.states() {
             if self.has(s) {
-                let k = self.below.choices(s);
-                if rest < k {
+                let choices = self.below.choices(s);
+                if rest < choices {
                     return Some(Choice {
                         state: s,
                         number: rest,
                     });
                 }
-                rest -= k;
+                rest -= choices;
             }
         }
         None
@@ -142,7 +140,8 @@ impl<'a, S: Source> Class<'a, S> {
     fn weight(&self, c: u32, to: &Class<'_, S>) -> u32
         requires same_below { to.now.below.now ≡ self.now.below.now }
         requires same_classes { to.now.classes.now ≡ self.now.classes.now }
-        ensures { result ≡ weight_between (S.Source.meaning self.now.below.now) (entry self.now.classes.now.of_state) self.now.number c to.now.number }
+        ensures { result ≡ weight_between (S.Source.meaning self.now.below.now) (class_of self.now.classes.now)
+            self.now.number c to.now.number }
     {
         match self.owner(c) {
             // No class has a choice of the last number, since at most that many are counted.
@@ -154,7 +153,7 @@ impl<'a, S: Source> Class<'a, S> {
     // What the choice gives to the class.
     #[tactic(auto, unfolding(crate::specs::Quotient::into))]
     fn given_by(&self, choice: Choice) -> u32
-        ensures { result ≡ into (S.Source.meaning self.now.below.now) (entry self.now.classes.now.of_state)
+        ensures { result ≡ into (S.Source.meaning self.now.below.now) (class_of self.now.classes.now)
             choice.state choice.number self.now.number }
     {
         self.sum(|t| self.below.weight(choice.state, choice.number, t))
@@ -163,7 +162,7 @@ impl<'a, S: Source> Class<'a, S> {
     // The sum over the states of the class, at most 4,294,967,295.
     fn sum<F: Fn(u32) -> u32>(&self, f: F) -> u32
         requires { F.IsAlwaysCallable f }
-        ensures { IsClassSum (F.post f) (entry self.now.classes.now.of_state) self.now.number
+        ensures { IsClassSum (F.post f) (class_of self.now.classes.now) self.now.number
             (S.Source.meaning self.now.below.now).states result }
     {
         (0..self.below.states())

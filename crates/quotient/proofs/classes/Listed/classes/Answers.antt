@@ -3,12 +3,12 @@ use Rattle.mdp.specs.Values.{entry}
 use Rattle.quotient.specs.Classes.{Lawful}
 use Rattle.quotient.proofs.Lawfulness.{lawful_copy}
 use Rattle.quotient.proofs.Quotients.{quotient_sound, quotient_matched}
-use Rattle.quotient.proofs.classes.Classes.of_list.Goals as goal
+use Rattle.quotient.proofs.classes.Listed.classes.Goals as goal
 
 pub returns : goal.returns
 returns g c =
-    let m = g.S.Source.meaning c.args.below.now in
-    let xs = c.args.list.now in
+    let m = g.S.Source.meaning c.args.self.now.below.now in
+    let xs = c.args.self.now.list.now in
     let copy = c.copied-of_state.result in
     let count = c.in_ok-count.count in
     let lawful : Lawful m (entry copy) (length xs) count =

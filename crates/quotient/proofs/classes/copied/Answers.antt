@@ -1,6 +1,0 @@
-use Rattle.mdp.proofs.Zeros.{zeros_everywhere}
-use Rattle.quotient.proofs.Lawfulness.{padded}
-use Rattle.quotient.proofs.classes.copied.Goals as goal
-
-pub returns : goal.returns
-returns c = padded c.args.list.now c.copy_from_slice.new.self _ c.copy_from_slice.ensures.after (zeros_everywhere 256)
