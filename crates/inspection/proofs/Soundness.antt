@@ -1,7 +1,7 @@
 -- A model without a fault is sound, and one with a fault is not.
-use Rattle.std.proofs.Common.{◌≡◌, ℕ, ◌+◌, ◌-◌, ◌<◌, ◌≤◌, Bool, true, false, Option, Some, None, length, refl, sym, subst, ◌∙◌, zero-add, inl, inr, arith}
+use Rattle.std.proofs.Common.{◌≡◌, ℕ, ◌+◌, ◌-◌, ◌<◌, ◌≤◌, Bool, true, false, Option, Some, None, Err, length, refl, sym, subst, ◌∙◌, zero-add, inl, inr, arith}
 use Rattle.std.specs.Bool.{Decides, MatchBool}
-use Rattle.std.specs.Option.{MatchOption, option_map}
+use Rattle.std.specs.Option.{MatchOption}
 use Rattle.std.specs.List.{range_with_len, HoldsAt, AllWithin}
 use Rattle.std.proofs.lemmas.List.FromFn.{length-range_with_len, get_or-range_with_len}
 use Rattle.std.proofs.lemmas.Bool.{cases_eq, cases_lt}
@@ -34,18 +34,11 @@ sound_from m within h k =
       full = λ s c l j. elim (cases_eq (sum m.states (m.weight s c)) m.denominator) [ inl z ↦ z | inr z ↦ absurd (k s l (c, j, z)) ];
     }
 
--- where a model within the limits never misses choices, its first fault is that of the lowest state that misses weights
-pub first_fault_from :
-    (m : Model) (lowest : Option ℕ) (r : Option Fault) → (OutOfLimits m → ⊥) → Never (MissesChoices m) m.states
-    → Lowest (MissesWeights m) m.states lowest → r ≡ option_map Weights lowest → FirstFault m r
-first_fault_from m (Some s) r within h k is = rw is (within, h, k)
-first_fault_from m None r within h k is = rw is (sound_from m within h k)
-
 -- a sum of choices up to a state is no more than the sum of all
 few_up_to : (m : Model) → Sound m → (s : ℕ) → s < m.states → sum (s + 1) m.choices ≤ 4096
 few_up_to m sound s l = omega (arith, sum_grows (s + 1) m.states m.choices (omega arith), sound.few_choices)
 
-pub faulty_not_sound : (m : Model) (f : Fault) → FirstFault m (Some f) → Sound m → ⊥
+pub faulty_not_sound : (m : Model) (f : Fault) → FirstFault m (Err f) → Sound m → ⊥
 faulty_not_sound m Limits (inl a) sound = omega (arith, sound.some_states)
 faulty_not_sound m Limits (inr (inl a)) sound = omega (arith, sound.few_states)
 faulty_not_sound m Limits (inr (inr (inl a))) sound = omega (arith, sound.some_denominator)

@@ -43,14 +43,14 @@ IsFull m s c = sum m.states (m.weight s c) ≡ m.denominator
 abbrev pub MissesWeights : Model → ℕ → Type 0
 MissesWeights m s = (c : ℕ) × (c < m.choices s) × (IsFull m s c → ⊥)
 
--- the fault of the smallest number that the model has anywhere, at the lowest state that has it; None where the model is sound
-abbrev pub FirstFault : Model → Option Fault → Type 0
-FirstFault m None = Sound m
-FirstFault m (Some Limits) = OutOfLimits m
-FirstFault m (Some (Choices s)) = (OutOfLimits m → ⊥) × Lowest (MissesChoices m) m.states (Some s)
-FirstFault m (Some (Weights s)) = (OutOfLimits m → ⊥) × Never (MissesChoices m) m.states × Lowest (MissesWeights m) m.states (Some s)
+-- the fault of the smallest number that the model has anywhere, at the lowest state that has it; none where the model is sound
+abbrev pub FirstFault : Model → Result Unit Fault → Type 0
+FirstFault m (Ok _) = Sound m
+FirstFault m (Err Limits) = OutOfLimits m
+FirstFault m (Err (Choices s)) = (OutOfLimits m → ⊥) × Lowest (MissesChoices m) m.states (Some s)
+FirstFault m (Err (Weights s)) = (OutOfLimits m → ⊥) × Never (MissesChoices m) m.states × Lowest (MissesWeights m) m.states (Some s)
 
 -- the answer for a source of this letter that means m
 abbrev pub Inspected : Model → ℕ → Result Unit Unsound → Type 0
 Inspected m letter (Ok _) = Sound m
-Inspected m letter (Err u) = (u.letter ≡ letter) × (Sound m → ⊥) × FirstFault m (Some u.fault)
+Inspected m letter (Err u) = (u.letter ≡ letter) × (Sound m → ⊥) × FirstFault m (Err u.fault)

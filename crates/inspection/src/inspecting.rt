@@ -14,6 +14,7 @@ struct Limited<'a, S: Source> {
 }
 
 impl<'a, S: Source> Limited<'a, S> {
+    // Not `within.then(..)`: tried, and the closure does not know that the test held, which the ghost field needs.
     fn new(source: &'a S) -> Option<Self>
         ensures none { IsNone result ↔ OutOfLimits (S.Source.meaning source.now) }
         ensures some { IfSome result (λ x. x.source.now ≡ source.now) }
@@ -35,7 +36,7 @@ impl<'a, S: Source> Limited<'a, S> {
     fn is_full(&self, s: u32, c: u32) -> bool
         ensures { Decides result (IsFull (S.Source.meaning self.now.source.now) s c) }
     {
-        self.total_weight(s, c) == self.source.denominator() as u128
+        self.total_weight(s, c) == u128::from(self.source.denominator())
     }
 
     fn misses_weights(&self, s: u32) -> bool
@@ -58,7 +59,7 @@ fn lowest_missing_choices<S: Source>(source: &S) -> Option<u32>
     let mut total: u64 = 0;
     for s in 0..source.states() {
         let k = source.choices(s);
-        total += k as u64;
+        total += u64::from(k);
         if k == 0 || total > 4096 {
             return Some(s);
         }
@@ -66,27 +67,24 @@ fn lowest_missing_choices<S: Source>(source: &S) -> Option<u32>
     None
 }
 
-fn first_fault<S: Source>(source: &S) -> Option<Fault>
+fn first_fault<S: Source>(source: &S) -> Result<(), Fault>
     ensures { FirstFault (S.Source.meaning source.now) result }
 {
-    let Some(limited) = Limited::new(source) else {
-        return Some(Fault::Limits);
-    };
+    let limited = Limited::new(source).ok_or(Fault::Limits)?;
     if let Some(s) = lowest_missing_choices(source) {
-        return Some(Fault::Choices(s));
+        return Err(Fault::Choices(s));
     }
-    limited.lowest_missing_weights().map(Fault::Weights)
+    if let Some(s) = limited.lowest_missing_weights() {
+        return Err(Fault::Weights(s));
+    }
+    Ok(())
 }
 
 // Whether the source's model is sound; if not, the fault of the smallest number that it has anywhere, at the lowest state.
+#[tactic(auto, using(crate::proofs::Soundness::faulty_not_sound))]
 pub fn inspect<S: Source>(source: &S) -> Result<(), Unsound>
     ensures { Inspected (S.Source.meaning source.now) S.Source.letter result }
 {
-    match first_fault(source) {
-        None => Ok(()),
-        Some(fault) => Err(Unsound {
-            letter: S::letter(),
-            fault,
-        }),
-    }
+    let letter = S::letter();
+    first_fault(source).map_err(|fault| Unsound { letter, fault })
 }

@@ -11,14 +11,15 @@ fn product<S: Source>(source: &S, s: u32, c: u32, t: u32, value: u64) -> u128
     ensures exact { result ≡ (S.Source.meaning source.now).weight s c t * value }
     ensures fits { result ≤ 2 ^ 96 }
 {
-    source.weight(s, c, t) as u128 * value as u128
+    u128::from(source.weight(s, c, t)) * u128::from(value)
 }
 
 // The sum of weight × value over all targets of a choice; targets past the values count as 0. It fits, whatever the source answers.
 pub fn weighted_sum<S: Source>(source: &S, s: u32, c: u32, values: &[u64; 256]) -> u128
     ensures { result ≡ expect (S.Source.meaning source.now) (entry values.now) s c }
 {
-    // A `zip` of the targets and the values takes twice the time.
+    // A loop with a total: a `zip` of the targets and the values takes twice the time, and for `.map(..).sum()` over these, tried too,
+    // it stayed open that the total fits and what it is.
     let n = values.len().min(source.states() as usize);
     let mut total: u128 = 0;
     for (t, value) in values[..n].iter().enumerate() {

@@ -89,11 +89,14 @@ impl Reach {
     pub fn step<S: Source>(&mut self, source: &S) -> Result<(), TooFar>
         ensures { Stepped (S.Source.meaning source.now) self.old result self.new }
     {
-        let power = self.power as u128 * source.denominator() as u128;
-        if self.steps >= 1000 || power > 1 << 62 {
+        if self.steps >= 1000 {
             return Err(TooFar);
         }
-        let power = power as u64;
+        let power = self
+            .power
+            .checked_mul(u64::from(source.denominator()))
+            .filter(|p| *p <= 1 << 62)
+            .ok_or(TooFar)?;
         let least = next_values(Extreme::Min, source, &self.least, power);
         let largest = next_values(Extreme::Max, source, &self.largest, power);
         let steps = self.steps + 1;

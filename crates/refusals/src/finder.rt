@@ -23,7 +23,7 @@ impl fmt::Display for Finder {
             Finder::Writer => f.write_str("writer"),
             Finder::Table => f.write_str("table"),
             Finder::Opening(letter) => {
-                let letter = *letter as char;
+                let letter = char::from(*letter);
                 write!(f, "opening of source {letter}")
             }
             Finder::ExactValues => f.write_str("exact values"),

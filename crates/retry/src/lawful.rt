@@ -57,12 +57,13 @@ impl Lawful {
                 resends,
                 applied,
             } => {
-                let place = event as u64 * (self.numbers.resends as u64 + 1) + resends as u64;
-                if applied { place * 2 + 1 } else { place * 2 }
+                let place = u64::from(event) * (u64::from(self.numbers.resends) + 1)
+                    + u64::from(resends);
+                place * 2 + u64::from(applied)
             }
-            Stage::Done => self.first_end() as u64,
-            Stage::GaveUp => self.first_end() as u64 + 1,
-            Stage::CountedTwice => self.first_end() as u64 + 2,
+            Stage::Done => u64::from(self.first_end()),
+            Stage::GaveUp => u64::from(self.first_end()) + 1,
+            Stage::CountedTwice => u64::from(self.first_end()) + 2,
         }
     }
 
@@ -118,7 +119,7 @@ impl Lawful {
     fn give(self, weight: u32, stage: Stage, t: u32) -> u32
         ensures { result ≡ (if number_of self.numbers stage == t then weight else 0) }
     {
-        if self.number_of(stage) == t as u64 {
+        if self.number_of(stage) == u64::from(t) {
             weight
         } else {
             0

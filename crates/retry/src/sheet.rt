@@ -104,8 +104,7 @@ impl Source for Sheet {
     }
 
     fn is_goal(&self, s: u32) -> bool {
-        self.lawful()
-            .is_some_and(|sheet| sheet.number_of(Stage::CountedTwice) == s as u64)
+        self.lawful().is_some_and(|sheet| sheet.number_of(Stage::CountedTwice) == u64::from(s))
     }
 
     fn choices(&self, s: u32) -> u32 {

@@ -24,7 +24,8 @@ impl<S: Source> Sink<S> {
         sink
     }
 
-    // It does nothing: to call it is to cite what its contract states.
+    // It does nothing: to call it is to cite what its contract states. Tried: `using(..sinked_sound)` on `new`, where the search
+    // goes on to the sinked model of the sinked model and so on, and stops at its limit.
     fn is_sound_once_sinked(&self)
         ensures { SoundOnceSinked (S.Source.meaning self.now.below) → Sound (sinked (S.Source.meaning self.now.below)) }
     {}
