@@ -1,6 +1,5 @@
 pub mod Said
 pub mod Held
-pub mod Lent
 pub mod Rows
 pub mod Halves
 pub mod Tabled

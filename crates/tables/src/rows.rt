@@ -1,9 +1,5 @@
 // The rows that a table rests on. Those of its third part, the branches of the choices, are the branches of the records.
 ghost use Rattle.std.specs.Prelude.{◌≡◌, take, drop};
-ghost use Rattle.tables.specs.Held.{Held};
-ghost use Rattle.tables.specs.Lent.{held_by};
-
-use crate::lent::Lent;
 
 #[derive(Clone, Copy, Default)]
 pub struct StateRow {
@@ -27,14 +23,6 @@ pub struct Filled {
     pub denominator: u16,
     pub choices: usize,
     pub branches: usize,
-}
-
-// What lends a table its rows. They may be any rows.
-pub trait Rows {
-    ghost held: { Self → Held };
-
-    fn lent(&self) -> Lent<'_>
-        ensures { held_by result ≡ held self.now };
 }
 
 // So many rows from the first on; fewer where there are no more.

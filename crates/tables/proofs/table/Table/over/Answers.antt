@@ -1,5 +1,5 @@
 use Rattle.tables.proofs.Saying.{rows_tell}
-use Rattle.tables.proofs.table.Table+Lent.over.Goals as goal
+use Rattle.tables.proofs.table.Table.over.Goals as goal
 
 pub returns-clause-file : goal.returns-clause-file
 returns-clause-file c =
