@@ -1,19 +1,14 @@
 -- What `all` and `any` find over the numbers below n, and `all` over these beside the items of a list.
 use Rattle.std.proofs.Common.{◌≡◌, ℕ, ◌<◌, Bool, true, false, Decides, MatchBool, List, length, get_or, subst, refl, ap, ◌∙◌, arith}
 use Rattle.std.proofs.lemmas.Bool.{false≢true}
-use Rattle.std.proofs.lemmas.Iterator.{cases_from_all, cases_from_any, zips, YieldsList-from_range, YieldsList-from_slice, YieldsList-from_zip}
+use Rattle.std.proofs.lemmas.Iterator.{cases_from_all, cases_from_any, YieldsList-from_range}
 use Rattle.std.proofs.lemmas.Slice.Zip.{length-zip, get_or-zip}
 use Rattle.std.proofs.lemmas.List.FromFn.{length-range_with_len, get_or-range_with_len}
-use Rattle.std.proofs.iter.Yields.{fronts, nat_range_steps}
+use Rattle.std.proofs.iter.Yields.{nat_range_steps}
 use Rattle.std.specs.declared.ops.Range.{Range}
-use Rattle.std.specs.declared.iter.Zip.{Zip}
-use Rattle.std.specs.Iterator.Adapters.{zip_first, zip_second}
-use Rattle.std.specs.declared.slice.Iter.{Iter}
-use Rattle.std.specs.Slice.Iter.{iter_rest}
 use Rattle.std.specs.Iterator.{ChecksAll, ChecksAny}
 use Rattle.std.specs.List.{HoldsAt, AllWithin, range_with_len, zip}
 use denote.Param.Members.{Mut, Called}
-use denote.Ref.{Bor}
 
 everywhere :
     (P : ℕ → Type 0) (n : ℕ) → AllWithin P (range_with_len 0 n) 0 (length (range_with_len 0 n)) → (x : ℕ) → x < n → P x
@@ -58,43 +53,39 @@ module _ {F : Type 0} {g : Mut F (ℕ × Unit {0}) Bool} {f : F} {u : Range ℕ}
       at true h = somewhere Yes n h
       at false h = everywhere No n h
 
-module _ {F : Type 0} {g : Mut F ((ℕ × Bor ℕ) × Unit {0}) Bool} {f : F} {s : Zip (Range ℕ) (Iter ℕ)} (u : Zip (Range ℕ) (Iter ℕ)) (n : ℕ) (r : Bool) where
-  pub all_numbered :
-      (P : ℕ → ℕ → Type 0) (xs : List ℕ) → n ≡ length xs → ChecksAll (zips nat_range_steps fronts) g s f r u
-      → zip_first s ≡ record { start = 0; end = n } → iter_rest (zip_second s) ≡ xs
-      → ((x : ℕ × Bor ℕ) (q : F) → Called g f (x, tt) true q → (q ≡ f) × P x.0 x.1.now)
-      → ((x : ℕ × Bor ℕ) (q : F) → Called g f (x, tt) false q → P x.0 x.1.now → ⊥)
-      → Decides r ((k : ℕ) → k < length xs → P k (get_or xs k 0))
-  all_numbered P xs e ran first second h k =
-      at r
-      (cases_from_all u f r (λ x. P x.0 x.1) (λ x. P x.0 x.1 → ⊥) ran
-      (YieldsList-from_zip (YieldsList-from_range 0 n n first (omega arith)) (YieldsList-from_slice xs second)) h k)
-    where
-      numbers : List ℕ
-      numbers = range_with_len 0 n
+-- the same over those numbers beside the items of a list
+pub all_numbered :
+    (P : ℕ → ℕ → Type 0) (n : ℕ) (xs : List ℕ) (r : Bool) → n ≡ length xs
+    → MatchBool r (AllWithin (λ x. P x.0 x.1) (zip (range_with_len 0 n) xs) 0 (length (zip (range_with_len 0 n) xs)))
+    ((k : ℕ) × (k < length (zip (range_with_len 0 n) xs)) × HoldsAt (λ x. P x.0 x.1 → ⊥) (zip (range_with_len 0 n) xs) k)
+    → Decides r ((k : ℕ) → k < length xs → P k (get_or xs k 0))
+all_numbered P n xs r e = at r
+  where
+    numbers : List ℕ
+    numbers = range_with_len 0 n
 
-      pairs : List (ℕ × ℕ)
-      pairs = zip numbers xs
+    pairs : List (ℕ × ℕ)
+    pairs = zip numbers xs
 
-      place : (k : ℕ) → k < length xs → get_or pairs k (0, 0) ≡ (k, get_or xs k 0)
-      place k l =
-          let number : get_or numbers k 0 ≡ k = omega (arith, get_or-range_with_len 0 n k 0 (omega arith)) in
-          get_or-zip numbers xs k (0, 0) (omega (arith, length-range_with_len 0 n)) l ∙ ap (λ x. (x, get_or xs k 0)) number
+    place : (k : ℕ) → k < length xs → get_or pairs k (0, 0) ≡ (k, get_or xs k 0)
+    place k l =
+        let number : get_or numbers k 0 ≡ k = omega (arith, get_or-range_with_len 0 n k 0 (omega arith)) in
+        get_or-zip numbers xs k (0, 0) (omega (arith, length-range_with_len 0 n)) l ∙ ap (λ x. (x, get_or xs k 0)) number
 
-      long : length pairs ≡ length xs
-      long = omega (arith, length-zip numbers xs, length-range_with_len 0 n)
+    long : length pairs ≡ length xs
+    long = omega (arith, length-zip numbers xs, length-range_with_len 0 n)
 
-      at : (b : Bool)
-          → MatchBool b (AllWithin (λ x. P x.0 x.1) pairs 0 (length pairs))
-          ((k : ℕ) × (k < length pairs) × HoldsAt (λ x. P x.0 x.1 → ⊥) pairs k)
-          → Decides b ((k : ℕ) → k < length xs → P k (get_or xs k 0))
-      at true h = (
-        λ e k l. subst (λ x. P x.0 x.1) (place k l) (h k (0, 0) (omega arith) (omega (arith, long))),
-        λ p. refl,
-      )
-      at false h = (
-        λ e. absurd (false≢true e),
-        λ p.
-            let l : h.0 < length xs = omega (arith, h.1, long) in
-            absurd (subst (λ x. P x.0 x.1 → ⊥) (place h.0 l) (h.2 (0, 0)) (p h.0 l)),
-      )
+    at : (b : Bool)
+        → MatchBool b (AllWithin (λ x. P x.0 x.1) pairs 0 (length pairs))
+        ((k : ℕ) × (k < length pairs) × HoldsAt (λ x. P x.0 x.1 → ⊥) pairs k)
+        → Decides b ((k : ℕ) → k < length xs → P k (get_or xs k 0))
+    at true h = (
+      λ e k l. subst (λ x. P x.0 x.1) (place k l) (h k (0, 0) (omega arith) (omega (arith, long))),
+      λ p. refl,
+    )
+    at false h = (
+      λ e. absurd (false≢true e),
+      λ p.
+          let l : h.0 < length xs = omega (arith, h.1, long) in
+          absurd (subst (λ x. P x.0 x.1 → ⊥) (place h.0 l) (h.2 (0, 0)) (p h.0 l)),
+    )

@@ -22,7 +22,6 @@ impl Classes {
         Listed::new(below, list)?.classes()
     }
 
-    // Past the 256th place the class is 0.
     pub(crate) fn class_of(&self, s: u32) -> u32
         ensures { result ≡ class_of self.now s }
     {
@@ -30,6 +29,7 @@ impl Classes {
     }
 }
 
+// Past the end of the list the class is 0.
 fn class_at(list: &[u8], s: u32) -> u32
     ensures { result ≡ entry list.now s }
 {

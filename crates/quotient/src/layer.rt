@@ -85,7 +85,7 @@ struct Choice {
     number: u32,
 }
 
-// One class of the states below. Its contracts name the fields, since the value of a `Model` can hold no functions, such as those of a model.
+// One class of the states below. Contracts name its fields, since the value of an `impl Model` can hold no functions, as a model's.
 #[derive(Drop)]
 struct Class<'a, S> {
     below: &'a S,
