@@ -11,7 +11,7 @@ fn product<S: Source>(source: &S, s: u32, c: u32, t: u32, value: u64) -> u128
     ensures exact { result ≡ (S.Source.meaning source.now).weight s c t * value }
     ensures fits { result ≤ 2 ^ 96 }
 {
-    u128::from(source.weight(s, c, t)) * u128::from(value)
+    source.weight(s, c, t) as u128 * value as u128
 }
 
 // The sum of weight × value over all targets of a choice; targets past the values count as 0. It fits, whatever the source answers.
