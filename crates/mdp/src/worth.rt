@@ -1,31 +1,29 @@
 // What a choice is worth, and what the best choice of a state is worth, on values of the targets.
-ghost use Rattle.std.specs.Prelude.{◌≡◌, ◌*◌, ◌^◌, ◌≤◌};
+ghost use Rattle.std.specs.Prelude.{◌≡◌, min};
 ghost use Rattle.mdp.specs.Sums.{best};
 ghost use Rattle.mdp.specs.Values.{entry, expect};
 
 use crate::extreme::Extreme;
 use crate::source::Source;
 
-// What one target adds to a weighted sum.
-fn product<S: Source>(source: &S, s: u32, c: u32, t: u32, value: u64) -> u128
-    ensures exact { result ≡ (S.Source.meaning source.now).weight s c t * value }
-    ensures fits { result ≤ 2 ^ 96 }
+// The sum over the first `n` targets, which are all that have a value.
+fn sum_to<S: Source>(source: &S, s: u32, c: u32, values: &[u64; 256], n: u32) -> u128
+    requires { n ≡ min (S.Source.meaning source.now).states 256 }
+    ensures { result ≡ expect (S.Source.meaning source.now) (entry values.now) s c }
 {
-    source.weight(s, c, t) as u128 * value as u128
+    // By number: over the values' iterator, with `enumerate` or `zip`, it takes about twice as long (tried), and this loop is all the work.
+    let mut total: u128 = 0;
+    for t in 0..n {
+        total += source.weight(s, c, t) as u128 * values[t as usize] as u128;
+    }
+    total
 }
 
 // The sum of weight × value over all targets of a choice; targets past the values count as 0. It fits, whatever the source answers.
 pub fn weighted_sum<S: Source>(source: &S, s: u32, c: u32, values: &[u64; 256]) -> u128
     ensures { result ≡ expect (S.Source.meaning source.now) (entry values.now) s c }
 {
-    // A loop with a total: a `zip` of the targets and the values takes twice the time, and for `.map(..).sum()` over these, tried too,
-    // it stayed open that the total fits and what it is.
-    let n = values.len().min(source.states() as usize);
-    let mut total: u128 = 0;
-    for (t, value) in values[..n].iter().enumerate() {
-        total += product(source, s, c, t as u32, *value);
-    }
-    total
+    sum_to(source, s, c, values, source.states().min(256))
 }
 
 // The least or the largest weighted sum over the choices of a state; 0 where it has none.

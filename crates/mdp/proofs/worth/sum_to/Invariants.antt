@@ -1,6 +1,6 @@
 use Rattle.std.proofs.Common.{◌≡◌, ◌*◌, ◌^◌, ◌≤◌}
 use Rattle.mdp.specs.Values.{entry, expect_to}
-use Rattle.mdp.proofs.worth.weighted_sum.Given as goal
+use Rattle.mdp.proofs.worth.sum_to.Given as goal
 
 abbrev pub invariant-loop-t : goal.invariant-loop-t
 invariant-loop-t g l =
