@@ -1,5 +1,5 @@
 // How the values of all states are worked out, one step at a time.
-ghost use Rattle.std.specs.Prelude.{◌≡◌, ℕ, ◌<◌, Some, slice_index};
+ghost use Rattle.std.specs.Prelude.{◌≡◌, ℕ, ◌<◌, cond, Some, slice_index};
 ghost use Rattle.mdp.specs.Values.{entry, ValueLaws};
 ghost use Rattle.reach.specs.Reach.{far_number, far_place, far_why, far_words, Begun, Stepped, Answered};
 ghost use Rattle.refusals.specs.declared.finder.Finder.TheVariants.{ExactValues};
@@ -46,7 +46,30 @@ impl fmt::Display for TooFar {
     }
 }
 
-// The values of all states after a step; past the model they are 0.
+// The value of one state after a step; 0 past the model, where the source is not asked.
+#[tactic(auto, using(crate::proofs::OneStep::next_outside))]
+fn next_value<S: Source>(
+    extreme: Extreme,
+    source: &S,
+    s: u32,
+    states: u32,
+    values: &[u64; 256],
+    power: u64,
+) -> u64
+    requires { states ≡ (S.Source.meaning source.now).states }
+    ensures { result ≡ next_value extreme (S.Source.meaning source.now) power (entry values.now) s }
+{
+    if s >= states {
+        return 0;
+    }
+    if source.is_goal(s) {
+        return power;
+    }
+    let best = best_choice(extreme, source, s, values);
+    u64::try_from(best).unwrap_or(u64::MAX)
+}
+
+// The values of all states after a step.
 fn next_values<S: Source>(
     extreme: Extreme,
     source: &S,
@@ -55,20 +78,24 @@ fn next_values<S: Source>(
 ) -> [u64; 256]
     ensures { (s : ℕ) → s < 256 → slice_index result s ≡ next_value extreme (S.Source.meaning source.now) power (entry values.now) s }
 {
-    array::from_fn(|s| {
-        if source.is_goal(s as u32) {
-            return power;
-        }
-        let best = best_choice(extreme, source, s as u32, values);
-        u64::try_from(best).unwrap_or(u64::MAX)
-    })
+    let states = source.states();
+    array::from_fn(|s| next_value(extreme, source, s as u32, states, values, power))
+}
+
+// The value of one state for no steps: 1 at a goal; 0 past the model, where the source is not asked.
+fn goal_mark<S: Source>(source: &S, s: u32, states: u32) -> u64
+    requires { states ≡ (S.Source.meaning source.now).states }
+    ensures { result ≡ cond ((S.Source.meaning source.now).goal s) 1 0 }
+{
+    u64::from(s < states && source.is_goal(s))
 }
 
 // The values for no steps: 1 at goals.
 fn goal_marks<S: Source>(source: &S) -> [u64; 256]
     ensures { Marks (S.Source.meaning source.now) result }
 {
-    array::from_fn(|s| u64::from(source.is_goal(s as u32)))
+    let states = source.states();
+    array::from_fn(|s| goal_mark(source, s as u32, states))
 }
 
 impl Reach {
