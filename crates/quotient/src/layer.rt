@@ -147,7 +147,10 @@ impl<'a, S: Source> Class<'a, S> {
         if c == u32::MAX {
             return 0;
         }
-        self.owner(c).map_or(0, |choice| to.given_by(choice))
+        match self.owner(c) {
+            Some(choice) => to.given_by(choice),
+            None => 0,
+        }
     }
 
     // What the choice gives to the class.
