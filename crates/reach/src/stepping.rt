@@ -1,5 +1,5 @@
 // How the values of all states are worked out, one step at a time.
-ghost use Rattle.std.specs.Prelude.{◌≡◌, ℕ, ◌<◌, cond, Some, slice_index};
+ghost use Rattle.std.specs.Prelude.{◌≡◌, ℕ, ◌<◌, Some, slice_index};
 ghost use Rattle.mdp.specs.Values.{entry, ValueLaws};
 ghost use Rattle.reach.specs.Reach.{far_number, far_place, far_why, far_words, Begun, Stepped, Answered};
 ghost use Rattle.refusals.specs.declared.finder.Finder.TheVariants.{ExactValues};
@@ -8,7 +8,7 @@ ghost use Rattle.reach.specs.Working.{Marks, next_value, Reached};
 use crate::reach::{Reach, TooFar, Values};
 use mdp::{Extreme, Source, best_choice};
 use refusals::{Finder, Refusal, write_refusal};
-use std::{array, fmt};
+use std::fmt;
 
 impl Refusal for TooFar {
     type Place = u32;
@@ -46,22 +46,23 @@ impl fmt::Display for TooFar {
     }
 }
 
-// The value of one state after a step; 0 past the model, where the source is not asked.
-#[tactic(auto, using(crate::proofs::OneStep::next_outside))]
+// A number for each state, all 0.
+fn zeros() -> [u64; 256]
+    ensures { (k : ℕ) → slice_index result k ≡ 0 }
+{
+    [0; 256]
+}
+
+// The value of one state after a step.
 fn next_value<S: Source>(
     extreme: Extreme,
     source: &S,
     s: u32,
-    states: u32,
     values: &[u64; 256],
     power: u64,
 ) -> u64
-    requires { states ≡ (S.Source.meaning source.now).states }
     ensures { result ≡ next_value extreme (S.Source.meaning source.now) power (entry values.now) s }
 {
-    if s >= states {
-        return 0;
-    }
     if source.is_goal(s) {
         return power;
     }
@@ -78,24 +79,24 @@ fn next_values<S: Source>(
 ) -> [u64; 256]
     ensures { (s : ℕ) → s < 256 → slice_index result s ≡ next_value extreme (S.Source.meaning source.now) power (entry values.now) s }
 {
-    let states = source.states();
-    array::from_fn(|s| next_value(extreme, source, s as u32, states, values, power))
-}
-
-// The value of one state for no steps: 1 at a goal; 0 past the model, where the source is not asked.
-fn goal_mark<S: Source>(source: &S, s: u32, states: u32) -> u64
-    requires { states ≡ (S.Source.meaning source.now).states }
-    ensures { result ≡ cond ((S.Source.meaning source.now).goal s) 1 0 }
-{
-    u64::from(s < states && source.is_goal(s))
+    // By number, over the states alone: `array::from_fn` goes over all 256, and takes five times as long for a model of a few (tried).
+    let mut next = zeros();
+    for s in 0..source.states().min(256) {
+        next[s as usize] = next_value(extreme, source, s, values, power);
+    }
+    next
 }
 
 // The values for no steps: 1 at goals.
 fn goal_marks<S: Source>(source: &S) -> [u64; 256]
     ensures { Marks (S.Source.meaning source.now) result }
 {
-    let states = source.states();
-    array::from_fn(|s| goal_mark(source, s as u32, states))
+    // By number, as above.
+    let mut marks = zeros();
+    for s in 0..source.states().min(256) {
+        marks[s as usize] = u64::from(source.is_goal(s));
+    }
+    marks
 }
 
 impl Reach {
