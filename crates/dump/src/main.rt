@@ -30,11 +30,12 @@ impl Count {
     }
 }
 
-fn print_row(rt: &impl Print, state: u16, row: u64) -> io::Result<()> {
+// Each line of a record but a row's is one call, since each call is a write of its own.
+fn print_row(rt: &impl Print, offset: usize, state: u16, row: u64) -> io::Result<()> {
     if row == 0 {
-        return println!(rt; "RW state {state}: related to nothing");
+        return println!(rt; "{offset:>6} RW state {state}: related to nothing");
     }
-    print!(rt; "RW state {state}: related to")?;
+    print!(rt; "{offset:>6} RW state {state}: related to")?;
     for t in (0..64u32).filter(|t| (row >> *t) & 1 == 1) {
         print!(rt; " {t}")?;
     }
@@ -51,34 +52,26 @@ fn kind_word(kind: Kind) -> &'static str {
     }
 }
 
-fn print_head(rt: &impl Print, kind: u8, side: u8) -> io::Result<()> {
+fn print_head(rt: &impl Print, offset: usize, kind: u8, side: u8) -> io::Result<()> {
     // A head that was read is of a kind that there is.
     let word = Kind::try_from(kind).map_or("unknown", kind_word);
     let book = if side == 0 { "low" } else { "high" };
-    println!(rt; "HD kind {kind} ({word}), side {side} ({book})")
+    println!(rt; "{offset:>6} HD kind {kind} ({word}), side {side} ({book})")
 }
 
-fn print_state(rt: &impl Print, state: usize, goal: u8, choices: u16) -> io::Result<()> {
-    let mark = if goal == 1 { "goal" } else { "no goal" };
-    println!(rt; "ST state {state}: {mark}, choices {choices}")
-}
-
-fn print_choice(rt: &impl Print, count: Count, entries: &[u8]) -> io::Result<()> {
+fn print_choice(rt: &impl Print, offset: usize, count: Count, entries: &[u8]) -> io::Result<()> {
     // A choice belongs to the state that came last.
     let state = count.state.saturating_sub(1);
     let choice = count.choice;
     let targets = branches(entries).len();
-    println!(rt; "CH state {state}, choice {choice}: targets {targets}")?;
+    println!(rt; "{offset:>6} CH state {state}, choice {choice}: targets {targets}")?;
     for Branch { target, weight } in branches(entries) {
         println!(rt; "         to {target}: weight {weight}")?;
     }
     Ok(())
 }
 
-// The entries of a WF, behind its other fields.
 fn print_portions(rt: &impl Print, entries: &[u8]) -> io::Result<()> {
-    let count = portions(entries).len();
-    println!(rt; "entries {count}")?;
     for Portion {
         target,
         high,
@@ -90,24 +83,29 @@ fn print_portions(rt: &impl Print, entries: &[u8]) -> io::Result<()> {
 }
 
 fn print_record(rt: &impl Print, offset: usize, item: Record<'_>, count: Count) -> io::Result<()> {
-    print!(rt; "{offset:>6} ")?;
     match item {
         Record::Md {
             states,
             denominator,
-        } => println!(rt; "MD states {states}, denominator {denominator}"),
-        Record::St { goal, choices } => print_state(rt, count.state, goal, choices),
-        Record::Ch { entries } => print_choice(rt, count, entries),
-        Record::Hd { kind, side } => print_head(rt, kind, side),
-        Record::Ce { state, claim } => println!(rt; "CE state {state}: ceiling {claim}"),
-        Record::Fl { state, claim } => println!(rt; "FL state {state}: floor {claim}"),
-        Record::Pc { state, class } => println!(rt; "PC state {state}: class {class}"),
+        } => println!(rt; "{offset:>6} MD states {states}, denominator {denominator}"),
+        Record::St { goal, choices } => {
+            let state = count.state;
+            let mark = if goal == 1 { "goal" } else { "no goal" };
+            println!(rt; "{offset:>6} ST state {state}: {mark}, choices {choices}")
+        }
+        Record::Ch { entries } => print_choice(rt, offset, count, entries),
+        Record::Hd { kind, side } => print_head(rt, offset, kind, side),
+        Record::Ce { state, claim } => println!(rt;
+            "{offset:>6} CE state {state}: ceiling {claim}"
+        ),
+        Record::Fl { state, claim } => println!(rt; "{offset:>6} FL state {state}: floor {claim}"),
+        Record::Pc { state, class } => println!(rt; "{offset:>6} PC state {state}: class {class}"),
         Record::Pm {
             state,
             choice,
             matched,
-        } => println!(rt; "PM state {state}, choice {choice}: match {matched}"),
-        Record::Rw { state, row } => print_row(rt, state, row),
+        } => println!(rt; "{offset:>6} PM state {state}, choice {choice}: match {matched}"),
+        Record::Rw { state, row } => print_row(rt, offset, state, row),
         Record::Wf {
             state,
             high,
@@ -115,10 +113,13 @@ fn print_record(rt: &impl Print, offset: usize, item: Record<'_>, count: Count) 
             matched,
             entries,
         } => {
-            print!(rt; "WF state {state}, high state {high}, choice {choice}: match {matched}, ")?;
+            let count = portions(entries).len();
+            println!(rt;
+                "{offset:>6} WF state {state}, high state {high}, choice {choice}: match {matched}, entries {count}"
+            )?;
             print_portions(rt, entries)
         }
-        Record::Zz => println!(rt; "ZZ end"),
+        Record::Zz => println!(rt; "{offset:>6} ZZ end"),
     }
 }
 

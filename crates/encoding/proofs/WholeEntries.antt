@@ -1,55 +1,39 @@
 -- Records whose entries are whole: how long they are, that the entries stand in them as they are, and that their numbers fit.
-use Rattle.std.proofs.Common.{◌≡◌, ℕ, ◌+◌, ◌*◌, ◌/◌, ◌%◌, ◌<◌, ◌≤◌, true, ◌&&◌, eqb, ltb, List, [], ◌∷◌, ◌++◌, length, get_or, drop, Bor, sym, refl, ap, ◌∙◌, subst, append-nil, arith}
-use Rattle.std.specs.List.{flat_map}
-use Rattle.std.proofs.lemmas.List.{drop_all, get_or-append-add}
+use Rattle.std.proofs.Common.{◌≡◌, ℕ, ◌+◌, ◌/◌, ◌%◌, ◌<◌, true, ◌&&◌, eqb, ltb, List, [], ◌∷◌, ◌++◌, length, get_or, Bor, sym, ap, ◌∙◌, subst, append-nil, arith}
+use Rattle.std.proofs.lemmas.List.{get_or-append-add}
 use Rattle.std.proofs.lemmas.Bool.{and_parts, eqb-true, ltb-true}
 use Rattle.records.specs.declared.content.Record.{Record}
 use Rattle.records.specs.declared.content.Record.TheVariants.{Ch, Wf}
-use Rattle.records.specs.Decode.{entries_from, branch_from, portion_from}
+use Rattle.records.specs.Decode.{branch_from, portion_from}
 use Rattle.records.specs.declared.content.Mark.{Mark}
 use Rattle.records.specs.Content.{mark_of}
-use Rattle.records.specs.Encode.{two, encode, branch_bytes, portion_bytes, Fits, first_letter, second_letter}
+use Rattle.records.specs.Encode.{two, encode, Fits, first_letter, second_letter}
 use Rattle.records.specs.Held.{content, whole}
-use Rattle.records.proofs.EntryLists.{entries_again, length-entries, length-flat_map}
-use Rattle.records.proofs.Exactness.{branch_width, branch_again, branches_fit, portion_width, portion_again, portions_fit}
+use Rattle.records.proofs.EntryLists.{length-entries}
+use Rattle.records.proofs.Exactness.{branches_fit, portions_fit}
+use Rattle.encoding.proofs.EntryBytes as entry
+use Rattle.encoding.proofs.EntryBytes.{length-ch, length-wf}
 
 -- what the test for whole entries says
-record Entries (w : ℕ) (xs : List ℕ) : Type 0 where
-  whole : length xs % w ≡ 0
-  few : length xs / w < 65536
+pub record Entries (w : ℕ) (xs : List ℕ) : Type 0 where
+  pub whole : length xs % w ≡ 0
+  pub few : length xs / w < 65536
 
-entries : (w : ℕ) (xs : List ℕ) → (eqb (length xs % w) 0 && ltb (length xs / w) 65536) ≡ true → Entries w xs
+pub entries : (w : ℕ) (xs : List ℕ) → (eqb (length xs % w) 0 && ltb (length xs / w) 65536) ≡ true → Entries w xs
 entries w xs h =
     let t = and_parts (eqb (length xs % w) 0) (ltb (length xs / w) 65536) h in
     record { whole = eqb-true (length xs % w) 0 t.0; few = ltb-true (length xs / w) 65536 t.1 }
-
--- the bytes of the entries that whole entries are read as
-module _ {E : Type 0} (w : ℕ) (one : List ℕ → ℕ → E) (bytes : E → List ℕ) (width : (e : E) → length (bytes e) ≡ w) (some : 0 < w) (xs : List ℕ) (h : length xs % w ≡ 0) where
-  length_again : length (flat_map bytes (entries_from w one (length xs / w) xs 0)) ≡ length xs
-  length_again =
-      let es = entries_from w one (length xs / w) xs 0 in
-      length-flat_map w one bytes width es ∙ ap (λ n. w * n) (length-entries w one (length xs / w) xs 0) ∙ omega arith
-
-  bytes_again : ((i : ℕ) → i + w ≤ length xs → drop i xs ≡ bytes (one xs i) ++ drop (i + w) xs) → flat_map bytes (entries_from w one (length xs / w) xs 0) ≡ xs
-  bytes_again again =
-      let es = entries_from w one (length xs / w) xs 0 in
-      let e = entries_again w one bytes width xs again (length xs / w) 0 (omega arith) in
-      let d = drop_all (0 + w * (length xs / w)) xs (omega arith) in
-      sym (e ∙ ap (λ ys. flat_map bytes es ++ ys) d ∙ append-nil (flat_map bytes es))
 
 module _ {r : Record} {es : Bor (List ℕ)} (is : r ≡ Ch es) (w : whole r ≡ true) where
   ch_entries : Entries 4 es.now
   ch_entries = entries 4 es.now (sym (ap whole is) ∙ w)
 
   pub length_ch : length (encode (content r)) ≡ 4 + length es.now
-  length_ch = ap (λ r. length (encode (content r))) is ∙ omega (arith, length_again 4 branch_from branch_bytes branch_width (omega arith) es.now ch_entries.whole)
+  length_ch = ap (λ r. length (encode (content r))) is ∙ length-ch es.now ch_entries.whole
 
   module _ (small : (j : ℕ) → get_or es.now j 0 < 256) where
     pub ch_bytes : encode (content r) ≡ 67 ∷ 72 ∷ (two (length es.now / 4) ++ es.now)
-    ch_bytes =
-        let n = length-entries 4 branch_from (length es.now / 4) es.now 0 in
-        let b = bytes_again 4 branch_from branch_bytes branch_width (omega arith) es.now ch_entries.whole (branch_again es.now small) in
-        ap (λ r. encode (content r)) is ∙ rw (n, b) refl
+    ch_bytes = ap (λ r. encode (content r)) is ∙ entry.ch_bytes es.now small ch_entries.whole
 
     pub ch_fits : Fits (content r)
     ch_fits =
@@ -61,14 +45,11 @@ module _ {r : Record} {s h c m : ℕ} {es : Bor (List ℕ)} (is : r ≡ Wf s h c
   wf_entries = entries 5 es.now (sym (ap whole is) ∙ w)
 
   pub length_wf : length (encode (content r)) ≡ 11 + length es.now
-  length_wf = ap (λ r. length (encode (content r))) is ∙ omega (arith, length_again 5 portion_from portion_bytes portion_width (omega arith) es.now wf_entries.whole)
+  length_wf = ap (λ r. length (encode (content r))) is ∙ length-wf s h c m es.now wf_entries.whole
 
   module _ (small : (j : ℕ) → get_or es.now j 0 < 256) where
     pub wf_bytes : encode (content r) ≡ 87 ∷ 70 ∷ (two s ++ (h ∷ (two c ++ (two m ++ (two (length es.now / 5) ++ es.now)))))
-    wf_bytes =
-        let n = length-entries 5 portion_from (length es.now / 5) es.now 0 in
-        let b = bytes_again 5 portion_from portion_bytes portion_width (omega arith) es.now wf_entries.whole (portion_again es.now small) in
-        ap (λ r. encode (content r)) is ∙ rw (n, b) refl
+    wf_bytes = ap (λ r. encode (content r)) is ∙ entry.wf_bytes es.now small s h c m wf_entries.whole
 
     pub wf_fits : s < 65536 → h < 256 → c < 65536 → m < 65536 → Fits (content r)
     wf_fits x y z u =

@@ -1,6 +1,6 @@
 // Tables filled from model files, and the models that they answer for.
 use crate::verdicts::MODEL;
-use filling::{FillFault, Tables};
+use filling::{FillFault, Tables, fill};
 use inspection::{Fault, inspect};
 use mdp::Source;
 use reader::ReadFault;
@@ -71,12 +71,7 @@ fn opened_under_the_sink(rt: HostRuntime) -> Result<(), Fail> {
     let mut states = [state_row(); 2];
     let mut choices = [choice_row(); 2];
     let mut branches = [branch(); 3];
-    let mut tables = Tables {
-        states: &mut states,
-        choices: &mut choices,
-        branches: &mut branches,
-    };
-    let filled = tables.fill(MODEL)?;
+    let filled = fill(MODEL, &mut states, &mut choices, &mut branches)?;
     let table = Table::over(&states, &choices, &branches, filled);
     let Err(unsound) = inspect(&table) else {
         return Err(Fail::new("sound without the sink"));

@@ -1,7 +1,7 @@
 // Model files that read, and each way in which one does not.
 use crate::verdicts::{MODEL, cut_anywhere};
 use reader::{ReadFault, Reader, read_model_file};
-use records::{Record, branches};
+use records::{Record, branch_at};
 use std::process::Abort;
 use std::test::Fail;
 
@@ -146,12 +146,12 @@ fn records_with_their_offsets(rt: HostRuntime) -> Result<(), Fail> {
     let Some((11, Record::Ch { entries })) = reader.next()? else {
         return Err(Fail::new("no CH"));
     };
-    let Some(branch) = branches(entries).nth(1) else {
+    let Some(branch) = branch_at(entries, 1) else {
         return Err(Fail::new("no second branch"));
     };
     assert_eq!(rt; branch.target, 1);
     assert_eq!(rt; branch.weight, 1);
-    assert!(rt; branches(entries).nth(2).is_none());
+    assert!(rt; branch_at(entries, 2).is_none());
     assert_eq!(rt; reader.offset(), 23);
     Ok(())
 }

@@ -1,8 +1,8 @@
 -- What a filling leaves.
-use Rattle.std.proofs.Common.{◌≡◌, ℕ, List, length, drop, sym, refl, ap, ◌∙◌, subst, arith}
+use Rattle.std.proofs.Common.{◌≡◌, ℕ, ◌<◌, List, length, drop, sym, refl, ap, ◌∙◌, subst, arith}
 use Rattle.std.proofs.lemmas.List.{take_at}
 use Rattle.tables.specs.Held.{Held, front}
-use Rattle.tables.proofs.Saying.{rows_tell}
+use Rattle.tables.proofs.Saying.{length-state_rows, rows_tell}
 use Rattle.tables.specs.declared.rows.Filled.{Filled}
 use Rattle.filling.specs.declared.filling.Tables as lent
 use Rattle.filling.specs.Fills.{AreSameLoans, FileOf, rows_in, Tables, RoomFor, Room, fronted_by, filled_by, Filling, TooSmall}
@@ -20,6 +20,10 @@ front_rows h t =
 
 -- A file whose rows were counted.
 module _ (xs : List ℕ) (file : FileOf xs) (k : Filled) (counted : k ≡ filled_by (rows_in xs file)) where
+  -- a file has fewer than 65,536 states
+  pub few_states : k.states < 65536
+  few_states = omega (arith, ap (λ (c : Filled). c.states) counted, length-state_rows 0 file.states, file.reads.fit.0.0)
+
   pub room_for_rows : (t : Tables) → RoomFor k t → Room (rows_in xs file) t
   room_for_rows t = subst (λ (c : Filled). RoomFor c t) counted
 

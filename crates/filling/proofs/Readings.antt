@@ -145,12 +145,21 @@ module _ (all rest : Reading) (k : Filled) (so : SoFar all rest k) where
         let whole = ap (adds none) (ap records_of so_far_next.comes ∙ prefixed_records ds next) ∙ adds-append none ds (records_of next) in
         rw (so_far_next.counts, whole) (below_adds (adds none ds) (records_of next))
 
+    -- nor are any more than the bytes, whatever whole files are
+    pub next_few :
+        (W : List Content → Type 0) (xs : List ℕ) → True W xs 0 all
+        → ((tally k (given r)).states ≤ length xs) × ((tally k (given r)).choices ≤ length xs) × ((tally k (given r)).branches ≤ length xs)
+    next_few W xs holds =
+        let few = few_adds none 0 (length xs) (records_of all) (record { states = omega arith; choices = omega arith; branches = omega arith }) (omega (arith, true_within W xs all holds)) in
+        let part = next_below in
+        (omega (arith, few, part), omega (arith, few, part), omega (arith, few, part))
+
     pub next_fits : (xs : List ℕ) → True ModelFile xs 0 all → length xs < 2 ^ 64 → CountsFit (tally k (given r))
     next_fits xs holds short =
-        let few = few_adds none 0 (length xs) (records_of all) (record { states = omega arith; choices = omega arith; branches = omega arith }) (omega (arith, true_within ModelFile xs all holds)) in
+        let few = next_few ModelFile xs holds in
         let states = true_few_states xs all holds in
         let part = next_below in
-        (omega (arith, states, part), omega (arith, few, part), omega (arith, few, part))
+        (omega (arith, states, part), omega (arith, few, short), omega (arith, few, short))
 
     pub next_room : (t : Tables) → Room (adds none (records_of all)) t → RoomFor (tally k (given r)) t
     next_room t room =

@@ -2,7 +2,7 @@
 ghost use Rattle.std.specs.Prelude.{◌≡◌, Decides};
 ghost use Rattle.records.specs.Held.{content};
 ghost use Rattle.filling.specs.Counted.{tally};
-ghost use Rattle.filling.specs.Fills.{FileOf, rows_in, held_in, AreSameLoans, RoomFor, Room, Filling, Fills};
+ghost use Rattle.filling.specs.Fills.{FileOf, rows_in, tables, held_in, AreSameLoans, RoomFor, Room, Filling, Fills};
 ghost use Rattle.filling.specs.Giving.{given};
 ghost use Rattle.filling.specs.Placed.{Placed};
 
@@ -82,4 +82,21 @@ impl Tables<'_> {
             _ => {}
         }
     }
+}
+
+// The three tables are filled from a model file, as `Tables::fill` does.
+pub fn fill(
+    bytes: &[u8],
+    states: &mut [StateRow],
+    choices: &mut [ChoiceRow],
+    branches: &mut [Branch],
+) -> Result<Filled, FillFault>
+    ensures { Fills bytes.now (tables states.old choices.old branches.old) (tables states.new choices.new branches.new) result }
+{
+    let mut lent = Tables {
+        states,
+        choices,
+        branches,
+    };
+    lent.fill(bytes)
 }

@@ -7,4 +7,4 @@ mod filling;
 mod placing;
 
 pub use fault::FillFault;
-pub use filling::Tables;
+pub use filling::{Tables, fill};

@@ -54,8 +54,9 @@ abbrev pub portions_ok : List Portion → Bool
 portions_ok [] = true
 portions_ok (p ∷ ps) = nat_lt 0 p.amount && portions_after p ps
 
--- The fields of a record of a body. A claim is at most 1,048,576, which stands for 1.
+-- The fields of a record of a hand-in. A claim is at most 1,048,576, which stands for 1.
 abbrev pub fields_ok : Content → Bool
+fields_ok (hd k s) = head_ok k s
 fields_ok (ce s c) = nat_le c 1048576
 fields_ok (fl s c) = nat_le c 1048576
 fields_ok (wf s h c m es) = portions_ok es

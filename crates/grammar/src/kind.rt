@@ -35,6 +35,21 @@ impl TryFrom<u8> for Kind {
     }
 }
 
+// The number of a kind in a head.
+impl From<Kind> for u8 {
+    ghost from_gives = { λ kind number. number ≡ number_of kind };
+
+    fn from(kind: Kind) -> u8 {
+        match kind {
+            Kind::Ceilings => 1,
+            Kind::Floors => 2,
+            Kind::Classes => 3,
+            Kind::Relation => 4,
+            Kind::Carry => 5,
+        }
+    }
+}
+
 impl Kind {
     // Whether a hand-in of this kind may be for that side: 0 the low or 1 the high book. It is the byte of the record, which may be any.
     pub(crate) fn may_be_for(self, side: u8) -> bool

@@ -4,6 +4,7 @@ ghost use Rattle.records.specs.Held.{content, branches, portions};
 ghost use Rattle.grammar.specs.HandIn.{fields_ok, portions_ok, portion_precedes};
 ghost use Rattle.grammar.specs.ModelFile.{branches_ok};
 
+use crate::kind::Kind;
 use records::{Portion, Record, branches, portions};
 
 // The largest claim: it stands for 1.
@@ -45,11 +46,12 @@ fn portions_ok(entries: &[u8]) -> bool
     true
 }
 
-// Whether the fields of a record of a hand-in's body are in their ranges.
+// Whether the fields of a record of a hand-in are in their ranges.
 pub(crate) fn fields_ok(item: Record<'_>) -> bool
     ensures { result ≡ fields_ok (content item.entry) }
 {
     match item {
+        Record::Hd { kind, side } => Kind::try_from(kind).is_ok_and(|kind| kind.may_be_for(side)),
         Record::Ce { claim, .. } | Record::Fl { claim, .. } => claim <= UNIT,
         Record::Wf { entries, .. } => portions_ok(entries),
         _ => true,

@@ -143,10 +143,13 @@ impl<'a, S: Source> Class<'a, S> {
         ensures { result ≡ weight_between (S.Source.meaning self.now.below.now) (class_of self.now.classes.now)
             self.now.number c to.now.number }
     {
+        // No class has a choice of the last number, since at most that many are counted.
+        if c == u32::MAX {
+            return 0;
+        }
         match self.owner(c) {
-            // No class has a choice of the last number, since at most that many are counted.
-            Some(choice) if c < u32::MAX => to.given_by(choice),
-            _ => 0,
+            Some(choice) => to.given_by(choice),
+            None => 0,
         }
     }
 

@@ -1,2 +1,1 @@
-mod FromFn
 mod OneStep

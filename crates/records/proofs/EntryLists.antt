@@ -1,18 +1,42 @@
--- Entries read out of their bytes: how many, out of chunks, in a part of the bytes, and their bytes again.
-use Rattle.std.proofs.Common.{◌≡◌, ℕ, zero, suc, ◌+◌, ◌*◌, ◌/◌, ◌%◌, ◌<◌, ◌≤◌, true, ◌&&◌, eqb, ltb, List, [], ◌∷◌, ◌++◌, length, get_or, map, take, drop, sym, refl, ap, ◌∙◌, append_assoc, add-zero, add_assoc, mul-suc, arith}
+-- Entries read out of their bytes: how many, the i-th, out of chunks, in a part of the bytes, and their bytes again.
+use Rattle.std.proofs.Common.{◌≡◌, ℕ, zero, suc, ◌+◌, ◌*◌, ◌/◌, ◌%◌, ◌<◌, ◌≤◌, true, ◌&&◌, eqb, ltb, List, [], ◌∷◌, ◌++◌, length, get_or, map, take, drop, Some, None, sym, refl, ap, ◌∙◌, append_assoc, add-zero, add_assoc, mul-suc, arith}
 use Rattle.std.proofs.lemmas.Bool.{and_from, eq-eqb, lt-ltb}
-use Rattle.std.specs.List.{flat_map}
+use Rattle.std.specs.List.{slice_get, flat_map}
+use Rattle.std.proofs.lemmas.Option.{slice_get_past}
 use Rattle.std.proofs.lemmas.List.{get_or-take, get_or-drop, length-take, length-drop, length-append, drop-drop}
 use Rattle.std.proofs.Math.Nat.{mul-div_cancel_left, mul-mod_right}
 use Rattle.std.specs.Simd.{first_chunks}
 use Rattle.records.specs.Encode.{Each}
 use Rattle.records.specs.Decode.{entries_from, branch_from, branches_from, portion_from, portions_from}
+use Rattle.records.specs.Held.{branches, portions}
 use Rattle.records.proofs.Digits.{get_or_past, be2_past}
+
+-- a part of a whole number of entries has their length
+pub part_whole : (w k : ℕ) (xs : List ℕ) (i m : ℕ) → m ≡ w * k → i + m ≤ length xs → length (take m (drop i xs)) ≡ w * k
+part_whole w k xs i m e h = simp (length-take, length-drop) (omega arith)
+
+-- so the test for whole entries comes out true
+pub test_whole : (w z : ℕ) → z % w ≡ 0 → z / w < 65536 → (eqb (z % w) 0 && ltb (z / w) 65536) ≡ true
+test_whole w z e h = and_from (eqb (z % w) 0) (ltb (z / w) 65536) (eq-eqb (z % w) 0 e) (lt-ltb (z / w) 65536 h)
 
 module _ {E : Type 0} (w : ℕ) (one : List ℕ → ℕ → E) where
   pub length-entries : (n : ℕ) (xs : List ℕ) (i : ℕ) → length (entries_from w one n xs i) ≡ n
   length-entries zero xs i = refl
   length-entries (suc n) xs i = ap suc (length-entries n xs (i + w))
+
+  nth_from : (n : ℕ) (xs : List ℕ) (at i : ℕ) → i < n → slice_get (entries_from w one n xs at) i ≡ Some (one xs (at + w * i))
+  nth_from zero xs at i h = absurd (omega arith)
+  nth_from (suc n) xs at zero h = let e : at + w * 0 ≡ at = omega arith in rw e refl
+  nth_from (suc n) xs at (suc i) h =
+      let e : at + w + w * i ≡ at + w * suc i = omega (arith, mul-suc w i) in
+      nth_from n xs (at + w) i (omega arith) ∙ ap (λ k. Some (one xs k)) e
+
+  -- the i-th entry, and none past the last
+  pub nth_entries : (n : ℕ) (xs : List ℕ) (i : ℕ) → i < n → slice_get (entries_from w one n xs 0) i ≡ Some (one xs (w * i))
+  nth_entries n xs i h = let e : 0 + w * i ≡ w * i = omega arith in nth_from n xs 0 i h ∙ ap (λ k. Some (one xs k)) e
+
+  pub no_entries : (n : ℕ) (xs : List ℕ) (i : ℕ) → n ≤ i → slice_get (entries_from w one n xs 0) i ≡ None
+  no_entries n xs i h = let l = length-entries n xs 0 in slice_get_past (entries_from w one n xs 0) i (omega arith)
 
   -- the entries inside a part of the bytes are those of the whole
   pub entries_inside : ((xs : List ℕ) (i m j : ℕ) → j + w ≤ m → one (take m (drop i xs)) j ≡ one xs (i + j)) → (n : ℕ) (xs : List ℕ) (i m j : ℕ) → j + w * n ≤ m → entries_from w one n (take m (drop i xs)) j ≡ entries_from w one n xs (i + j)
@@ -31,14 +55,20 @@ module _ {E : Type 0} (w : ℕ) (one : List ℕ → ℕ → E) where
       let d : drop w (drop i xs) ≡ drop (i + w) xs = drop-drop w i xs in
       rw (d, entries_of_chunks same n xs (i + w)) (ap (λ o. o ∷ entries_from w one n xs (i + w)) (e ∙ ap (one xs) (add-zero i)))
 
-  -- the entries of a part of whole entries are those of the whole, and the test for whole entries comes out true
+  -- the entries of a part of whole entries are those of the whole, however many they are
+  pub entries_of_part : ((xs : List ℕ) (i m j : ℕ) → j + w ≤ m → one (take m (drop i xs)) j ≡ one xs (i + j)) → (k : ℕ) (xs : List ℕ) (i m : ℕ) → 0 < w → m ≡ w * k → i + m ≤ length xs → entries_from w one (length (take m (drop i xs)) / w) (take m (drop i xs)) 0 ≡ entries_from w one k xs i
+  entries_of_part same k xs i m p e h =
+      let q : w * k / w ≡ k = mul-div_cancel_left k p in
+      rw (part_whole w k xs i m e h, q, entries_inside same k xs i m 0 (omega arith), add-zero) refl
+
+  -- and where they are few enough, the test for whole entries comes out true
   pub entries_read : ((xs : List ℕ) (i m j : ℕ) → j + w ≤ m → one (take m (drop i xs)) j ≡ one xs (i + j)) → (k : ℕ) (xs es : List ℕ) (i : ℕ) → 0 < w → k < 65536 → es ≡ take (w * k) (drop i xs) → i + w * k ≤ length xs → (entries_from w one (length es / w) es 0 ≡ entries_from w one k xs i) × ((eqb (length es % w) 0 && ltb (length es / w) 65536) ≡ true)
   entries_read same k xs es i p few e h =
-      let l : length es ≡ w * k = rw e (simp (length-take, length-drop) (omega arith)) in
+      let l : length es ≡ w * k = ap length e ∙ part_whole w k xs i (w * k) refl h in
       let q : w * k / w ≡ k = mul-div_cancel_left k p in
       let r : w * k % w ≡ 0 = mul-mod_right w k in (
-        rw (l, q, e, entries_inside same k xs i (w * k) 0 (omega arith), add-zero) refl,
-        and_from (eqb (length es % w) 0) (ltb (length es / w) 65536) (eq-eqb (length es % w) 0 (rw (l, r) refl)) (lt-ltb (length es / w) 65536 (rw (l, q) few)),
+        rw e (entries_of_part same k xs i (w * k) p refl h),
+        test_whole w (length es) (rw (l, r) refl) (rw (l, q) few),
       )
 
   -- entries past a front are the same without the front
@@ -102,6 +132,12 @@ portion_inside xs i m j h =
 
 pub portion_past : (pre ys : List ℕ) (n : ℕ) → portion_from (pre ++ ys) (length pre + n) ≡ portion_from ys n
 portion_past pre ys n = rw (add_assoc (length pre) n 2, add_assoc (length pre) n 3, be2_past pre ys n, get_or_past pre ys (n + 2), be2_past pre ys (n + 3)) refl
+
+pub branches_of_part : (k : ℕ) (xs : List ℕ) (i m : ℕ) → m ≡ 4 * k → i + m ≤ length xs → branches (take m (drop i xs)) ≡ branches_from k xs i
+branches_of_part k xs i m e h = entries_of_part 4 branch_from branch_inside k xs i m (omega arith) e h
+
+pub portions_of_part : (k : ℕ) (xs : List ℕ) (i m : ℕ) → m ≡ 5 * k → i + m ≤ length xs → portions (take m (drop i xs)) ≡ portions_from k xs i
+portions_of_part k xs i m e h = entries_of_part 5 portion_from portion_inside k xs i m (omega arith) e h
 
 pub length-branches : (n : ℕ) (xs : List ℕ) (i : ℕ) → length (branches_from n xs i) ≡ n
 length-branches n xs i = length-entries 4 branch_from n xs i

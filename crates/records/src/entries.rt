@@ -1,6 +1,7 @@
 // The entries of a CH or a WF, one by one, out of their bytes.
 ghost use Rattle.std.specs.Prelude.{◌≡◌, ℕ, ◌/◌, ◌^◌, ◌<◌, List, length};
 ghost use Rattle.std.proofs.Common.{rules};
+ghost use Rattle.std.specs.List.{slice_get};
 ghost use Rattle.std.specs.Iterator.{YieldsFirst, item_count};
 ghost use Rattle.records.specs.Decode.{branch_from, portion_from};
 ghost use Rattle.records.specs.Held.{branches, portions};
@@ -102,6 +103,13 @@ impl<'a, E: Entry<N>, const N: usize> Entries<'a, E, N> {
             of: PhantomData,
         }
     }
+
+    // The i-th of those that are left, in a time that does not depend on i.
+    pub fn get(&self, i: usize) -> Option<E>
+        ensures { result ≡ slice_get self.now i }
+    {
+        Some(E::from_bytes(self.chunks.get(i)?))
+    }
 }
 
 // The branches of a CH. Bytes behind the last whole one count for nothing.
@@ -120,4 +128,18 @@ pub fn portions(entries: &[u8]) -> Entries<'_, Portion, PORTION_SIZE>
     ensures len { length result ≡ length entries.now / PORTION_SIZE }
 {
     Entries::<Portion, PORTION_SIZE>::of(entries)
+}
+
+// The i-th branch of a CH.
+pub fn branch_at(entries: &[u8], i: usize) -> Option<Branch>
+    ensures { result ≡ slice_get (branches entries.now) i }
+{
+    branches(entries).get(i)
+}
+
+// The i-th portion of a WF.
+pub fn portion_at(entries: &[u8], i: usize) -> Option<Portion>
+    ensures { result ≡ slice_get (portions entries.now) i }
+{
+    portions(entries).get(i)
 }

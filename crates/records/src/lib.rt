@@ -8,4 +8,4 @@ mod fields;
 
 pub use content::{BRANCH_SIZE, Branch, Mark, PORTION_SIZE, Portion, Record};
 pub use decoding::{NoMark, decode, mark_at};
-pub use entries::{Entries, Entry, branches, portions};
+pub use entries::{Entries, Entry, branch_at, branches, portion_at, portions};

@@ -1,5 +1,5 @@
 -- The numbering of the stages is one to one.
-use Rattle.std.specs.Prelude.{◌≡◌, ℕ, ◌+◌, ◌<◌, Bool, true, false}
+use Rattle.std.specs.Prelude.{◌≡◌, ℕ, ◌+◌, ◌/◌, ◌%◌, ◌<◌, Bool, true, false, ◌==◌}
 use Rattle.std.proofs.Common.{arith}
 use Rattle.std.proofs.lemmas.Bool.Decides.{nat_tests}
 use Rattle.std.proofs.lemmas.Nat.{div-mul-add, mod-mul-add, mul-add-lt}
@@ -12,6 +12,17 @@ use Rattle.retry.specs.Bounded.{number_of-below, stage_of-proper}
 
 number_of-stage_of : (x : Numbers) (s : ℕ) → s < first_end x + 3 → number_of x (stage_of x s) ≡ s
 number_of-stage_of x s l = grind (arith, nat_tests)
+
+-- the stage of a number below the first end
+abbrev pub sending_of : Numbers → ℕ → Stage
+sending_of x s = Sending (s / 2 / (x.resends + 1)) (s / 2 % (x.resends + 1)) (s % 2 == 1)
+
+-- the sheet has that stage, and its number is the one that it was made of
+pub sending_forth : (x : Numbers) (s : ℕ) → s < first_end x → Proper x (sending_of x s) × (number_of x (sending_of x s) ≡ s)
+sending_forth x s l =
+    let proper = stage_of-proper x s in
+    let back = number_of-stage_of x s (omega arith) in
+    grind (arith, nat_tests, proper, back)
 
 stage_of-sending :
     (x : Numbers) (i j : ℕ) (f : Bool) → i < x.events → j < x.resends + 1

@@ -11,19 +11,28 @@ use Rattle.retry.specs.declared.stage.Stage.TheVariants.{Sending, Done, GaveUp, 
 use Rattle.retry.specs.declared.numbers.Numbers.{Numbers}
 use Rattle.retry.specs.Numbers.{first_end, is_lawful}
 use Rattle.retry.specs.Sheet.{number_of, stage_of, Proper, choices_at, Gift, gifts, given, states_of, retried}
-use Rattle.retry.specs.Bounded.{number_of-below, stage_of-proper, again-proper, next-proper}
+use Rattle.retry.specs.Bounded.{number_of-below, stage_of-proper, AllProper, gifts-proper}
 
--- every gift goes to a stage that the sheet has
-abbrev AllProper : Numbers → List Gift → Type 0
-AllProper x [] = Unit {0}
-AllProper x (g ∷ gs) = Proper x g.target × AllProper x gs
+-- what lawful numbers keep to
+pub record Limits (x : Numbers) : Type 0 where
+  pub some_events : 1 ≤ x.events
+  pub few_events : x.events ≤ 255
+  pub few_resends : x.resends ≤ 255
+  pub some_denominator : 1 ≤ x.denominator
+  pub few_denominator : x.denominator ≤ 65535
+  pub lost : x.request + x.receipt ≤ x.denominator
+  pub few_states : first_end x + 3 ≤ 256
 
-gifts-proper : (x : Numbers) (p : Stage) (c : ℕ) → Proper x p → AllProper x (gifts x p c)
-gifts-proper x (Sending i j true) c h = grind (arith, nat_tests, again-proper, next-proper)
-gifts-proper x (Sending i j false) c h = grind (arith, nat_tests, again-proper, next-proper)
-gifts-proper x Done c h = tt
-gifts-proper x GaveUp c h = tt
-gifts-proper x CountedTwice c h = tt
+pub limits_from : (x : Numbers) → IsTrue (is_lawful x) → Limits x
+limits_from x h = record {
+  some_events = grind (arith, nat_tests);
+  few_events = grind (arith, nat_tests);
+  few_resends = grind (arith, nat_tests);
+  some_denominator = grind (arith, nat_tests);
+  few_denominator = grind (arith, nat_tests);
+  lost = grind (arith, nat_tests);
+  few_states = grind (arith, nat_tests);
+}
 
 abbrev total : List Gift → ℕ
 total [] = 0
@@ -36,13 +45,36 @@ sum-given x (g ∷ gs) h =
     let one = sum_one (first_end x + 3) k g.weight (number_of-below x g.target h.0) in
     omega (arith, sum_add (first_end x + 3) (λ t. cond (k == t) g.weight 0) (given x gs), one, sum-given x gs h.1)
 
--- each of its choices gives away the denominator
-total-gifts : (x : Numbers) (p : Stage) (c : ℕ) → IsTrue (is_lawful x) → c < choices_at p → total (gifts x p c) ≡ x.denominator
+-- each of a stage's choices gives away the denominator
+total-gifts :
+    (x : Numbers) (p : Stage) (c : ℕ) → x.request + x.receipt ≤ x.denominator → c < choices_at p
+    → total (gifts x p c) ≡ x.denominator
 total-gifts x (Sending i j true) c h l = grind (arith, nat_tests)
 total-gifts x (Sending i j false) c h l = grind (arith, nat_tests)
 total-gifts x Done c h l = omega arith
 total-gifts x GaveUp c h l = omega arith
 total-gifts x CountedTwice c h l = omega arith
+
+-- each choice of a stage of the sheet gives the denominator to the sheet's states, where no more is lost than there is
+pub stage_given_full :
+    (x : Numbers) (p : Stage) (c : ℕ) → x.request + x.receipt ≤ x.denominator → Proper x p → c < choices_at p
+    → sum (first_end x + 3) (given x (gifts x p c)) ≡ x.denominator
+stage_given_full x p c k h l = sum-given x (gifts x p c) (gifts-proper x p c h) ∙ total-gifts x p c k l
+
+states_lawful : (x : Numbers) → IsTrue (is_lawful x) → states_of x ≡ first_end x + 3
+states_lawful x h = cond-true (is_lawful x) (first_end x + 3) 0 h
+
+weight_inside : (x : Numbers) (s c t : ℕ) → s < states_of x → (retried x).weight s c t ≡ given x (gifts x (stage_of x s) c) t
+weight_inside x s c t l = grind (arith, nat_tests)
+
+choices_inside : (x : Numbers) (s : ℕ) → s < states_of x → (retried x).choices s ≡ choices_at (stage_of x s)
+choices_inside x s l = grind (arith, nat_tests)
+
+-- what the stage of a state gives is the model's weight
+pub weight_given :
+    (x : Numbers) (s c t : ℕ) (p : Stage) (r : ℕ) → s < states_of x → p ≡ stage_of x s → r ≡ given x (gifts x p c) t
+    → r ≡ (retried x).weight s c t
+weight_given x s c t p r l e h = h ∙ ap (λ q. given x (gifts x q c) t) e ∙ sym (weight_inside x s c t l)
 
 choices-two : (p : Stage) → choices_at p ≤ 2
 choices-two (Sending i j true) = omega arith
@@ -56,10 +88,9 @@ full :
     → sum (states_of x) ((retried x).weight s c) ≡ x.denominator
 full x s c h l k =
     let p = stage_of x s in
-    sum_same (states_of x) ((retried x).weight s c) (given x (gifts x p c)) (λ t g. grind (arith, nat_tests))
-    ∙ ap (λ n. sum n (given x (gifts x p c))) (cond-true (is_lawful x) (first_end x + 3) 0 h)
-    ∙ sum-given x (gifts x p c) (gifts-proper x p c (stage_of-proper x s))
-    ∙ total-gifts x p c h (grind (arith, nat_tests))
+    sum_same (states_of x) ((retried x).weight s c) (given x (gifts x p c)) (λ t g. weight_inside x s c t l)
+    ∙ ap (λ n. sum n (given x (gifts x p c))) (states_lawful x h)
+    ∙ stage_given_full x p c (limits_from x h).lost (stage_of-proper x s) (omega (arith, choices_inside x s l, k))
 
 few_choices : (x : Numbers) → sum (states_of x) (λ s. max 1 ((retried x).choices s)) ≤ states_of x * 2
 few_choices x =

@@ -61,11 +61,11 @@ impl<S: Source> Source for Sink<S> {
         self.below.is_goal(s)
     }
 
+    // Not `is_stuck`, which would ask the source below a second time, and twice as often again in each layer more.
     fn choices(&self, s: u32) -> u32 {
-        if self.is_stuck(s) {
-            1
-        } else {
-            self.below.choices(s)
+        match self.below.choices(s) {
+            0 if s < self.below.states() => 1,
+            n => n,
         }
     }
 
