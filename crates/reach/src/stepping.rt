@@ -79,7 +79,7 @@ fn next_values<S: Source>(
 ) -> [u64; 256]
     ensures { (s : ℕ) → s < 256 → slice_index result s ≡ next_value extreme (S.Source.meaning source.now) power (entry values.now) s }
 {
-    // By number, over the states alone: `array::from_fn` goes over all 256, and takes five times as long for a model of a few (tried).
+    // By number, over the states alone: `array::from_fn` goes over all 256, and took seven times as long for seven states (tried).
     let mut next = zeros();
     for s in 0..source.states().min(256) {
         next[s as usize] = next_value(extreme, source, s, values, power);
